@@ -1,16 +1,17 @@
 -- The files stand for the journal, as long as the other file has no open header.
-use Rattle.std.proofs.Common.{◌≡◌, ℕ, ◌-◌, ◌<◌, true, false, List, Some, Result, Err, inl, inr}
-use Rattle.std.proofs.Common.{refl, sym, ap, subst}
+use Rattle.std.proofs.Common.{◌≡◌, ℕ, ◌-◌, ◌<◌, true, false, List, [], ◌∷◌, Some, Result, Err}
+use Rattle.std.proofs.Common.{inl, inr, refl, sym, ap, subst}
 use Rattle.std.proofs.Common.{◌∙◌, arith}
 use Rattle.outside.specs.Disk.{RelatesTold}
 use Rattle.outside.specs.Files.{Two, File, IsFileImage, NothingPending, file_of, read_files}
+use Rattle.outside.specs.Files.{settled}
 use Rattle.outside.specs.Frames.{HasFrames, format_in, generation_in, is_open, journal_file}
 use Rattle.outside.specs.Links.{sent_of}
 use Rattle.outside.specs.Outside.{DiskRun, Moment, MomentsAre, Outside}
 use Rattle.outside.specs.Steps.{FileMoment, PassedMoments, other_of}
 use Rattle.outside.proofs.CallSteps.{becomes_then, becomes_told, moments_map, moments_none}
 use Rattle.outside.proofs.CallSteps.{moments_then, now_images}
-use Rattle.frame_journal.specs.Create.{BeforeOrShut, PreparesJournal}
+use Rattle.frame_journal.specs.Create.{BeforeOrShut, IsCleared, IsClearedAgain, PreparesJournal}
 use Rattle.frame_journal.specs.Journal.{JournalValue}
 use Rattle.sync_rules.specs.declared.entries.Entry.{Entry}
 use Rattle.sync_rules.specs.Clients.{Meaning}
@@ -21,7 +22,7 @@ use Rattle.entry_codec.specs.Standing.{journal}
 use Rattle.file_standing.specs.Standing.{stands}
 use Rattle.entry_codec.proofs.FrontLaws.{found_open}
 use Rattle.journal_migration.specs.Migrating.{HoldsSecond}
-use Rattle.journal_migration.specs.Starting.{EndsOrStays}
+use Rattle.journal_migration.specs.Starting.{ClearsAgain, EndsOrStays, StaysShut}
 use Rattle.journal_migration.specs.declared.fault.MigrationFault.{MigrationFault}
 use Rattle.journal_migration.specs.declared.fault.MigrationFault.TheVariants as migration
 use Rattle.journal_migration.proofs.Sides.{image_only, one_open, own_file, read_file, settled_first}
@@ -33,7 +34,7 @@ use Rattle.journal_compaction.specs.declared.fault.CompactionFault.TheVariants a
 use Rattle.journal_compaction.specs.Compacting.{CompactsJournal, FilesHoldCompacted}
 use Rattle.journal_compaction.specs.Compacting.{StandsForEither}
 use Rattle.journal_compaction.specs.Faults.{fault_of}
-use Rattle.journal_compaction.specs.Writing.{IsFileIdle, LeavesIdle, StaysIdle, StaysShut}
+use Rattle.journal_compaction.specs.Writing.{IsFileIdle, StaysIdle}
 use Rattle.journal_compaction.proofs.Working.{passed_before}
 
 -- a moment whose files stand for the journal
@@ -219,21 +220,33 @@ stays_then file generation o0 o1 o2 first run becomes second two told =
       nothing_sent = moment.nothing_sent;
     }) shut)
 
+-- a file that is cleared
+idle_cleared : (file : ℕ) (two : Two File) → IsCleared two file → IsFileIdle file two
+idle_cleared file two cleared =
+    let now : (file_of two file).now ≡ cleared.gate ∷ [] = ap (λ (f : File). f.now) cleared.bytes in
+    record {
+      settled = cleared.bytes ∙ ap settled (sym now);
+      shut = ap is_open now;
+    }
+
 -- no memory was found while it was written, or a call on the disk failed
 module _ (clients : Meaning) (m : JournalValue) (j : List (List Entry)) (two : Two File)
     (few : m.file < 2)
     (holds : HoldsSecond clients m j two) where
   written_so : (file generation : ℕ) (o0 o1 o2 : Outside) (e : MigrationFault) → file ≡ 1 - m.file
       → o0.files ≡ Some two → RelatesTold (PreparesJournal file 2 generation) o0.files o1.files
-      → LeavesIdle {A = Unit {0}} file o1.files o2.files (Err e) → (two' : Two File)
+      → ClearsAgain {A = Unit {0}} file o1.files o2.files (Err e) → (two' : Two File)
       → o2.files ≡ Some two'
       → FilesHoldCompacted clients m j (Err (fault_of e)) two'
   written_so file generation o0 o1 o2 migration.DiskFault is told becomes idle two' told' = tt
   written_so file generation o0 o1 o2 migration.Memory is told becomes idle two' told' =
       let all : RelatesTold (StaysIdle file) o0.files o2.files =
-      becomes_then (PreparesJournal file 2 generation) (StaysIdle file) (StaysIdle file) o0.files
-      o1.files o2.files
-      (λ a b c x y. record { other = y.other ∙ x.other; idle = y.idle }) becomes idle in
+      becomes_then (PreparesJournal file 2 generation) (IsClearedAgain file) (StaysIdle file)
+      o0.files o1.files o2.files
+      (λ a b c x y. record {
+        other = y.other ∙ x.other;
+        idle = idle_cleared file c y.cleared;
+      }) becomes idle in
       let new = becomes_told (StaysIdle file) o0.files o2.files two told all in
       let both : Some new.0 ≡ Some two' = sym new.1 ∙ told' in
       let one : new.0 ≡ two' = cc in
@@ -247,7 +260,7 @@ module _ (clients : Meaning) (m : JournalValue) (j : List (List Entry)) (two : T
       → EndsOrStays file o0 o1 → DiskRun o0 o1
       → RelatesTold (PreparesJournal file 2 generation) o0.files o1.files
       → StaysShut file o1 o2
-      → LeavesIdle {A = Unit {0}} file o1.files o2.files (Err e) → result ≡ Err (fault_of e)
+      → ClearsAgain {A = Unit {0}} file o1.files o2.files (Err e) → result ≡ Err (fault_of e)
       → CompactsJournal clients m j o0 o2 result
   written_failed file generation o0 o1 o2 e result is told begun run becomes shut idle answer =
       let stays : EndsOrStays (1 - m.file) o0 o2 =

@@ -9,5 +9,6 @@ pub mod Counted
 mod Working
 mod Pages
 mod Holding
+mod Own
 mod Publishing
 mod Limits

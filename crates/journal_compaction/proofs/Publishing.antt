@@ -32,7 +32,7 @@ use Rattle.entry_codec.proofs.FormatKinds.{short_journal}
 use Rattle.entry_codec.proofs.FrontLaws.{found_open}
 use Rattle.journal_migration.specs.Copying.{header_mark}
 use Rattle.journal_migration.specs.Migrating.{HoldsSecond}
-use Rattle.journal_migration.specs.Starting.{EndsOrStays}
+use Rattle.journal_migration.specs.Starting.{ClearsAgain, EndsOrStays, StaysShut}
 use Rattle.journal_migration.specs.declared.fault.MigrationFault.{MigrationFault}
 use Rattle.journal_migration.proofs.Published.{greater_found, opened_format, opened_frames}
 use Rattle.journal_migration.proofs.Published.{opened_generation}
@@ -46,7 +46,7 @@ use Rattle.journal_compaction.specs.Cited.{CompactionLaws}
 use Rattle.journal_compaction.specs.Compacting.{CompactsJournal, IsCompacted, StandsForEither}
 use Rattle.journal_compaction.specs.Faults.{fault_of}
 use Rattle.journal_compaction.specs.Planning.{AreWritten, IsPlan, plan_pages}
-use Rattle.journal_compaction.specs.Writing.{WritesPayloads, AppendsPayloads, LeavesIdle, StaysShut}
+use Rattle.journal_compaction.specs.Writing.{WritesPayloads, AppendsPayloads}
 use Rattle.journal_compaction.specs.Writing.{IsWriterShut}
 use Rattle.journal_compaction.proofs.Filling.{written}
 use Rattle.journal_compaction.proofs.Holding.{own_kept, shut_stands, stays_either, stays_then}
@@ -306,7 +306,7 @@ pub write_failed : (clients : Meaning) (m n0 : JournalValue) (j : List (List Ent
     (o0 o1 o2 : Outside) (e : MigrationFault) (result : Result JournalValue CompactionFault)
     → m.file < 2 → HoldsSecond clients m j two → o0.files ≡ Some two → Begun m n0 o0 o1
     → StaysShut n0.file o1 o2
-    → LeavesIdle {A = Unit {0}} n0.file o1.files o2.files (Err e)
+    → ClearsAgain {A = Unit {0}} n0.file o1.files o2.files (Err e)
     → result ≡ Err (fault_of e) → CompactsJournal clients m j o0 o2 result
 write_failed clients m n0 j two o0 o1 o2 e result few holds told begun shut idle is =
     let file : n0.file ≡ 1 - m.file = ap (λ (v : JournalValue). v.file) begun.value in
@@ -314,7 +314,7 @@ write_failed clients m n0 j two o0 o1 o2 e result few holds told begun shut idle
     told begun.stays
     begun.run begun.prepared
     (subst (λ (k : ℕ). StaysShut k o1 o2) file shut)
-    (subst (λ (k : ℕ). LeavesIdle {A = Unit {0}} k o1.files o2.files (Err e)) file idle) is
+    (subst (λ (k : ℕ). ClearsAgain {A = Unit {0}} k o1.files o2.files (Err e)) file idle) is
 
 -- what the writer is then
 pub compacted_so : (clients : Meaning) (f : Facts) (p : Plan) (m n0 n : JournalValue)

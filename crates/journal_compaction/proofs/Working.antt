@@ -15,14 +15,18 @@ use Rattle.outside.proofs.CallSteps.{becomes_map, becomes_none, becomes_then, be
 use Rattle.outside.proofs.CallSteps.{image_file, image_other}
 use Rattle.outside.proofs.CallSteps.{moments_map, moments_none, moments_then, now_images, told_back}
 use Rattle.frame_journal.specs.Append.{AppendsFrame, BeforeOrWith, IsFramed, framed_of, payload_of}
+use Rattle.frame_journal.specs.Create.{LeavesClosed, StaysClosed}
 use Rattle.frame_journal.specs.Journal.{JournalValue}
 use Rattle.frame_journal.proofs.AppendSteps.{end_more}
+use Rattle.frame_journal.proofs.ClearSteps.{becomes_new}
+use Rattle.frame_journal.proofs.Closed.{closed_settled}
 use Rattle.frame_journal.proofs.Framed.{framed_as, framed_length, payload_framed}
+use Rattle.journal_migration.specs.Starting.{StaysShut}
 use Rattle.journal_migration.proofs.Copied.{shut_header}
 use Rattle.journal_migration.proofs.Sides.{image_only}
 use Rattle.journal_compaction.specs.Paging.{frames_len}
 use Rattle.journal_compaction.specs.Writing.{WritesPayloads, AppendsPayloads, IsFileIdle}
-use Rattle.journal_compaction.specs.Writing.{StaysShut, IsWriterShut}
+use Rattle.journal_compaction.specs.Writing.{IsWriterShut}
 use Rattle.journal_compaction.proofs.Weighing.{one_frame}
 use Rattle.journal_compaction.proofs.Weighing as weighing
 
@@ -250,3 +254,36 @@ shut_then n n' added o0 o1 o2 first run adding second two told =
     subst (λ (k : ℕ). StaysShut k o1 o2) adding.grows.file_is second in
     moments_then o0 o1 o2 (FileMoment Q two (sent_of o0.links.told) n.file) (first two told)
     (passed_before Q two mid.0 n.file o0 o1 o2 mid.2.other run.same_links (there mid.0 mid.1))
+
+-- ---- what was written is taken back
+
+-- a writer's file
+writer_closed : (n : JournalValue) (two : Two File) → IsWriterShut n two
+    → StaysClosed (file_of two n.file)
+writer_closed n two works =
+    subst StaysClosed (sym works.at_rest.settled) (closed_settled (file_of two n.file).now
+    (record {
+      gate = works.shut.gate;
+      rest = _;
+      closed = works.shut.closed;
+      shape = works.shut.frames.whole;
+    }))
+
+pub works_closed : (n : JournalValue) (file : ℕ) (o o' : Option (Two File)) → file ≡ n.file
+    → ForSome o (IsWriterShut n) → RelatesTold (LeavesClosed n.file) o o'
+    → ForSome o' (λ t. StaysClosed (file_of t file))
+works_closed n file o o' is works leaves t told =
+    let from = becomes_new (LeavesClosed n.file) o o' t told leaves in
+    subst (λ (k : ℕ). StaysClosed (file_of t k)) (sym is)
+    (from.2.closed (writer_closed n from.0 (works from.0 from.1)))
+
+-- at each moment until then, and while it is, the file has no open header
+pub shut_back : (file again : ℕ) (o0 o1 o2 : Outside) → again ≡ file → StaysShut file o0 o1
+    → DiskRun o0 o1 → RelatesTold (LeavesClosed file) o0.files o1.files → StaysShut again o1 o2
+    → StaysShut file o0 o2
+shut_back file again o0 o1 o2 same first run leaves second two told =
+    let Q : List ℕ → Type 0 = λ left. is_open left ≡ false in
+    let mid = becomes_told (LeavesClosed file) o0.files o1.files two told leaves in
+    let there : StaysShut file o1 o2 = subst (λ (k : ℕ). StaysShut k o1 o2) same second in
+    moments_then o0 o1 o2 (FileMoment Q two (sent_of o0.links.told) file) (first two told)
+    (passed_before Q two mid.0 file o0 o1 o2 mid.2.other run.same_links (there mid.0 mid.1))

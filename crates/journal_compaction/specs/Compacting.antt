@@ -1,6 +1,8 @@
 -- A journal of format 2 of which the brief account is written into the other file, and then made
 -- the journal.
-use Rattle.std.specs.Prelude.{◌≡◌, ◌⊎◌, ℕ, ◌+◌, ◌<◌, ◌≤◌, List, Result, Ok, Err, Some}
+use Rattle.std.specs.Prelude.{◌≡◌, ◌⊎◌, ℕ, ◌+◌, ◌<◌, ◌≤◌, List, Option, Result, Ok, Err}
+use Rattle.std.specs.Prelude.{Some}
+use Rattle.outside.specs.Disk.{RelatesTold}
 use Rattle.outside.specs.Files.{Two, File}
 use Rattle.outside.specs.Links.{sent_of}
 use Rattle.outside.specs.Outside.{Moment, MomentsAre, Outside}
@@ -14,7 +16,8 @@ use Rattle.entry_codec.specs.declared.naming.Format.TheVariants as kind
 use Rattle.entry_codec.specs.Payloads.{journal_end}
 use Rattle.entry_codec.specs.Standing.{journal, room_of}
 use Rattle.file_standing.specs.Standing.{stands}
-use Rattle.journal_migration.specs.Migrating.{HoldsSecond, other_number}
+use Rattle.journal_migration.specs.Migrating.{HoldsSecond, IsAsBeforeOrCleared, KeepsFile}
+use Rattle.journal_migration.specs.Migrating.{other_number}
 use Rattle.journal_compaction.specs.declared.fault.CompactionFault.{CompactionFault}
 use Rattle.journal_compaction.specs.declared.fault.CompactionFault.TheVariants as fault
 
@@ -64,3 +67,16 @@ pub record CompactsJournal (clients : Meaning) (m : JournalValue) (j : List (Lis
     (result : Result JournalValue CompactionFault) : Type 0 where
   pub moments : MomentsAre old new (StandsForEither clients j (sent_of old.links.told))
   pub ends : (two : Two File) → new.files ≡ Some two → FilesHoldCompacted clients m j result two
+
+-- The journal's own file is as before. Where a call on the disk failed this is not said.
+abbrev pub KeepsOwn : (file : ℕ) → (old new : Option (Two File))
+    → Result JournalValue CompactionFault → Type 0
+KeepsOwn file old new (Err fault.DiskFault) = Unit {0}
+KeepsOwn file old new _ = RelatesTold (KeepsFile file) old new
+
+-- Where no memory was found nothing is left of what was written of the other file.
+abbrev pub LeavesNothing : (other : ℕ) → (old new : Option (Two File))
+    → Result JournalValue CompactionFault → Type 0
+LeavesNothing other old new (Err fault.Memory) =
+    RelatesTold (IsAsBeforeOrCleared other) old new
+LeavesNothing other old new _ = Unit {0}

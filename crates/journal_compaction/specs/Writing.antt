@@ -1,17 +1,13 @@
 -- A writer of frames into a prepared file.
-use Rattle.std.specs.Prelude.{◌≡◌, ℕ, ◌+◌, ◌≤◌, ◌*◌, false, List, [], ◌++◌, length, Option, Some}
-use Rattle.std.specs.Prelude.{Result, Ok, Err}
+use Rattle.std.specs.Prelude.{◌≡◌, ℕ, ◌+◌, ◌≤◌, ◌*◌, false, List, [], ◌++◌, length, Option}
 use Rattle.outside.specs.declared.limits.TheConstants.{MAX_FRAME}
 use Rattle.outside.specs.Disk.{RelatesTold}
 use Rattle.outside.specs.Files.{Two, File, NothingPending, file_of}
 use Rattle.outside.specs.Frames.{HasFrames, IsAtRest, end_of, is_open}
-use Rattle.outside.specs.Outside.{Outside}
-use Rattle.outside.specs.Steps.{PassedMoments, other_of}
+use Rattle.outside.specs.Steps.{other_of}
 use Rattle.frame_journal.specs.Journal.{JournalValue}
 use Rattle.sync_rules.specs.Facts.{Facts}
 use Rattle.journal_migration.specs.Copying.{IsShut}
-use Rattle.journal_migration.specs.declared.fault.MigrationFault.{MigrationFault}
-use Rattle.journal_migration.specs.declared.fault.MigrationFault.TheVariants as fault
 use Rattle.journal_compaction.specs.declared.items.Item.{Item}
 use Rattle.journal_compaction.specs.Paging.{frames_len, pages}
 
@@ -41,11 +37,6 @@ pub record WritesPayloads (n n' : JournalValue) (added : List (List ℕ))
   pub grows : MovesWriterOn n n' added
   pub adds : RelatesTold (AppendsPayloads n.file n.end added) old new
 
--- at each moment the file has no open header, and the other is as it was
-abbrev pub StaysShut : (file : ℕ) → Outside → Outside → Type 0
-StaysShut file old new = (two : Two File) → old.files ≡ Some two
-    → PassedMoments two old new file (λ left. is_open left ≡ false)
-
 -- nothing is pending in the file, which has no open header
 pub record IsFileIdle (file : ℕ) (two : Two File) : Type 0 where
   pub settled : NothingPending two file
@@ -55,13 +46,6 @@ pub record IsFileIdle (file : ℕ) (two : Two File) : Type 0 where
 pub record StaysIdle (file : ℕ) (old new : Two File) : Type 0 where
   pub other : other_of new file ≡ other_of old file
   pub idle : IsFileIdle file new
-
--- that is so where no memory was found
-abbrev pub LeavesIdle : {A : Type 0} → (file : ℕ) → (old new : Option (Two File))
-    → Result A MigrationFault → Type 0
-LeavesIdle file old new (Ok a) = Unit {0}
-LeavesIdle file old new (Err fault.Memory) = RelatesTold (StaysIdle file) old new
-LeavesIdle file old new (Err fault.DiskFault) = Unit {0}
 
 -- ---- the payload that is being filled
 

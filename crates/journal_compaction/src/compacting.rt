@@ -7,15 +7,16 @@ ghost use Rattle.outside.specs.Outside.{DiskRun};
 ghost use Rattle.sync_rules.specs.declared.entries.Entry.{Entry};
 ghost use Rattle.sync_rules.specs.Facts.{facts};
 ghost use Rattle.sync_rules.specs.Steps.{IsSettled};
-ghost use Rattle.journal_migration.specs.Migrating.{HoldsSecond};
+ghost use Rattle.journal_migration.specs.Migrating.{HoldsSecond, other_number};
 ghost use Rattle.journal_migration.specs.Starting.{IsSettledBoth};
 ghost use Rattle.journal_compaction.specs.Compacting.{CompactsJournal, IsCompacted, WeighsAccount};
+ghost use Rattle.journal_compaction.specs.Compacting.{KeepsOwn, LeavesNothing};
 
 use crate::CompactionFault;
 use crate::laws::cite_laws;
 use crate::page::Page;
 use crate::plan::Plan;
-use crate::writing::write_plan;
+use crate::writing::write_account;
 use frame_journal::{Journal, publish};
 use journal_migration::begin;
 use journal_state::State;
@@ -32,6 +33,10 @@ use sync_rules::Clients;
 /// `Memory` they still hold the journal as before. `Full` comes exactly where the brief account,
 /// in bytes and with 10 for each step that may yet be made, would pass the limit; then no call on
 /// the disk was made. It takes the memory of a second state and of a plan of the account.
+///
+/// The journal's own file is neither read nor written. Once the other file's gate is closed, and
+/// before it is opened, what was written of that file is taken back after a failure: after `Memory`
+/// it is as it was, or one byte long.
 pub fn compact<D: Disk, C: Clients>(
     alloc: Global,
     disk: &mut D,
@@ -54,6 +59,9 @@ pub fn compact<D: Disk, C: Clients>(
         → HoldsSecond (C.meaning clients.now) journal.now j two
         → CompactsJournal (C.meaning clients.now) journal.now j (D.tells disk.old) (D.tells disk.new)
         result }
+    ensures own { KeepsOwn journal.now.file (D.tells disk.old).files (D.tells disk.new).files result }
+    ensures back { LeavesNothing (other_number journal.now.file) (D.tells disk.old).files
+        (D.tells disk.new).files result }
     ensures run { DiskRun (D.tells disk.old) (D.tells disk.new) }
     ensures fault { IsErrOf result CompactionFault.DiskFault
         → CountRose (D.tells disk.old).disk_faults (D.tells disk.new).disk_faults }
@@ -68,7 +76,7 @@ pub fn compact<D: Disk, C: Clients>(
     }
     let mut page = Page::new(alloc)?;
     let mut writer = begin(disk, 1 - file, generation + 1)?;
-    write_plan(disk, state, &plan, &mut writer, &mut page)?;
+    write_account(disk, state, &plan, &mut writer, &mut page)?;
     publish(disk, writer.file())?;
     Ok(writer)
 }

@@ -1,11 +1,14 @@
 //! The payload that is being filled.
 ghost use Rattle.std.specs.Prelude.{◌≡◌, ◌+◌, ◌-◌, ◌≤◌, [], cond, length, IfOk, IsErrOf, OnErr, OnOk};
 ghost use Rattle.std.specs.Option.{ForSome};
+ghost use Rattle.outside.specs.Disk.{RelatesTold};
 ghost use Rattle.outside.specs.Faults.{CountRose};
 ghost use Rattle.outside.specs.Outside.{DiskRun};
 ghost use Rattle.frame_journal.specs.Append.{framed_of};
+ghost use Rattle.frame_journal.specs.Create.{LeavesClosed};
 ghost use Rattle.journal_compaction.specs.Paging.{closed_page, frames_len};
-ghost use Rattle.journal_compaction.specs.Writing.{WritesPayloads, LeavesIdle, StaysShut, IsWriterShut};
+ghost use Rattle.journal_compaction.specs.Writing.{WritesPayloads, IsWriterShut};
+ghost use Rattle.journal_migration.specs.Starting.{StaysShut};
 
 use frame_journal::Journal;
 use journal_migration::MigrationFault;
@@ -65,8 +68,8 @@ impl Page {
             (D.tells disk.new).files) }
         ensures works { OnOk result (ForSome (D.tells disk.new).files (IsWriterShut writer.new)) }
         ensures shut { StaysShut writer.old.file (D.tells disk.old) (D.tells disk.new) }
-        ensures idle { LeavesIdle writer.old.file (D.tells disk.old).files
-            (D.tells disk.new).files result }
+        ensures leaves { RelatesTold (LeavesClosed writer.old.file) (D.tells disk.old).files
+            (D.tells disk.new).files }
         ensures run { DiskRun (D.tells disk.old) (D.tells disk.new) }
         ensures fault { IsErrOf result MigrationFault.DiskFault
             → CountRose (D.tells disk.old).disk_faults (D.tells disk.new).disk_faults }

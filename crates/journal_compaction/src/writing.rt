@@ -2,21 +2,24 @@
 ghost use Rattle.std.specs.Prelude.{◌≡◌, ◌+◌, ◌-◌, ◌≤◌, ◌++◌, [], length, IfOk, IsErrOf, OnErr, OnOk};
 ghost use Rattle.std.specs.List.{AllByRecursion};
 ghost use Rattle.std.specs.Option.{ForSome};
+ghost use Rattle.outside.specs.Disk.{RelatesTold};
 ghost use Rattle.outside.specs.Faults.{CountRose};
 ghost use Rattle.outside.specs.Outside.{DiskRun};
+ghost use Rattle.frame_journal.specs.Create.{LeavesClosed};
 ghost use Rattle.entry_codec.specs.Spelling.{IsEntry};
 ghost use Rattle.journal_compaction.specs.Items.{IsItem, bytes_of, entry_of};
 ghost use Rattle.journal_compaction.specs.Paging.{frames_len, left_after, page_for, pages};
 ghost use Rattle.journal_compaction.specs.Paging.{written_for};
 ghost use Rattle.journal_compaction.specs.Planning.{AreItemsKnown, AreWritten, plan_pages};
-ghost use Rattle.journal_compaction.specs.Writing.{WritesPayloads, HasSpace, LeavesIdle, StaysShut, IsWriterShut};
+ghost use Rattle.journal_compaction.specs.Writing.{WritesPayloads, HasSpace, IsWriterShut};
+ghost use Rattle.journal_migration.specs.Starting.{ClearsAgain, StaysShut};
 
 use crate::items::{Item, append_item};
 use crate::page::Page;
 use crate::paging::{joins, left_after};
 use crate::plan::Plan;
 use frame_journal::Journal;
-use journal_migration::MigrationFault;
+use journal_migration::{MigrationFault, take_back};
 use journal_state::State;
 use outside::{Disk, MAX_JOURNAL};
 use sync_rules::{MAX_ROWS, MAX_STEPS};
@@ -50,8 +53,8 @@ fn write_item<D: Disk>(
         (D.tells disk.new).files) }
     ensures works { OnOk result (ForSome (D.tells disk.new).files (IsWriterShut writer.new)) }
     ensures shut { StaysShut writer.old.file (D.tells disk.old) (D.tells disk.new) }
-    ensures idle { LeavesIdle writer.old.file (D.tells disk.old).files (D.tells disk.new).files
-        result }
+    ensures leaves { RelatesTold (LeavesClosed writer.old.file) (D.tells disk.old).files
+        (D.tells disk.new).files }
     ensures run { DiskRun (D.tells disk.old) (D.tells disk.new) }
     ensures fault { IsErrOf result MigrationFault.DiskFault
         → CountRose (D.tells disk.old).disk_faults (D.tells disk.new).disk_faults }
@@ -85,8 +88,8 @@ pub(crate) fn write_items<D: Disk>(
         (D.tells disk.new).files) }
     ensures works { OnOk result (ForSome (D.tells disk.new).files (IsWriterShut writer.new)) }
     ensures shut { StaysShut writer.old.file (D.tells disk.old) (D.tells disk.new) }
-    ensures idle { LeavesIdle writer.old.file (D.tells disk.old).files (D.tells disk.new).files
-        result }
+    ensures leaves { RelatesTold (LeavesClosed writer.old.file) (D.tells disk.old).files
+        (D.tells disk.new).files }
     ensures run { DiskRun (D.tells disk.old) (D.tells disk.new) }
     ensures fault { IsErrOf result MigrationFault.DiskFault
         → CountRose (D.tells disk.old).disk_faults (D.tells disk.new).disk_faults }
@@ -98,8 +101,8 @@ pub(crate) fn write_items<D: Disk>(
     page.flush(disk, writer, false)
 }
 
-/// Writes all items of a plan.
-pub(crate) fn write_plan<D: Disk>(
+// Writes all items of a plan.
+fn write_plan<D: Disk>(
     disk: &mut D,
     state: &State,
     plan: &Plan,
@@ -116,8 +119,8 @@ pub(crate) fn write_plan<D: Disk>(
         (plan_pages state.now.facts plan.now) (D.tells disk.old).files (D.tells disk.new).files) }
     ensures works { OnOk result (ForSome (D.tells disk.new).files (IsWriterShut writer.new)) }
     ensures shut { StaysShut writer.old.file (D.tells disk.old) (D.tells disk.new) }
-    ensures idle { LeavesIdle writer.old.file (D.tells disk.old).files (D.tells disk.new).files
-        result }
+    ensures leaves { RelatesTold (LeavesClosed writer.old.file) (D.tells disk.old).files
+        (D.tells disk.new).files }
     ensures run { DiskRun (D.tells disk.old) (D.tells disk.new) }
     ensures fault { IsErrOf result MigrationFault.DiskFault
         → CountRose (D.tells disk.old).disk_faults (D.tells disk.new).disk_faults }
@@ -125,4 +128,37 @@ pub(crate) fn write_plan<D: Disk>(
     write_items(disk, state, plan.head.as_slice(), MAX_STEPS, writer, page)?;
     write_items(disk, state, plan.told.as_slice(), MAX_STEPS, writer, page)?;
     write_items(disk, state, plan.peers.as_slice(), MAX_ROWS, writer, page)
+}
+
+/// Writes all items of a plan. What was written of the writer's file is taken back after a failure.
+pub(crate) fn write_account<D: Disk>(
+    disk: &mut D,
+    state: &State,
+    plan: &Plan,
+    writer: &mut Journal,
+    page: &mut Page,
+) -> Result<(), MigrationFault>
+    requires planned { AreItemsKnown state.now.facts plan.now }
+    requires empty { page.old.payload.items ≡ [] }
+    requires room { writer.old.end + frames_len (plan_pages state.now.facts plan.now)
+        ≤ MAX_JOURNAL }
+    requires works { ForSome (D.tells disk.old).files (IsWriterShut writer.old) }
+    ensures within { OnOk result (AreWritten state.now.facts plan.now) }
+    ensures adding { OnOk result (WritesPayloads writer.old writer.new
+        (plan_pages state.now.facts plan.now) (D.tells disk.old).files (D.tells disk.new).files) }
+    ensures works { OnOk result (ForSome (D.tells disk.new).files (IsWriterShut writer.new)) }
+    ensures shut { StaysShut writer.old.file (D.tells disk.old) (D.tells disk.new) }
+    ensures leaves { RelatesTold (LeavesClosed writer.old.file) (D.tells disk.old).files
+        (D.tells disk.new).files }
+    ensures back { ClearsAgain writer.old.file (D.tells disk.old).files (D.tells disk.new).files
+        result }
+    ensures run { DiskRun (D.tells disk.old) (D.tells disk.new) }
+    ensures fault { IsErrOf result MigrationFault.DiskFault
+        → CountRose (D.tells disk.old).disk_faults (D.tells disk.new).disk_faults }
+{
+    let file = writer.file();
+    match write_plan(disk, state, plan, writer, page) {
+        Ok(()) => Ok(()),
+        Err(fault) => Err(take_back(disk, file, fault)),
+    }
 }

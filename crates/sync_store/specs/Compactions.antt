@@ -13,6 +13,7 @@ use Rattle.entry_codec.specs.Payloads.{journal_end}
 use Rattle.journal_compaction.specs.Compacting.{compacted_len}
 use Rattle.sync_store.specs.Store.{StoreValue}
 use Rattle.sync_store.specs.Fitting.{FitsFiles}
+use Rattle.sync_store.specs.Migrations.{KeepsOwnFile}
 use Rattle.sync_store.specs.Moments.{IsBetween, LeadsTo}
 use Rattle.sync_store.specs.declared.fault.StoreFault.{StoreFault}
 use Rattle.sync_store.specs.declared.fault.StoreFault.TheVariants as fault
@@ -76,8 +77,10 @@ LeadsToBrief clients old new result o o' =
     (two : Two File) → o.files ≡ Some two → (j : List (List Entry)) → FitsFiles clients old j two
     → LeadsTo clients (IsOrBrief j) (λ whole. whole ≡ compacted_by j result) new o o'
 
--- a store that is not closed was compacted, as far as the answer says
+-- A store that is not closed was compacted, as far as the answer says. The file that its journal was
+-- in is neither read nor written.
 pub record StoreHasCompacted (clients : Meaning) (old new : StoreValue)
     (result : Result (Unit {0}) StoreFault) (o o' : Outside) : Type 0 where
   pub answer : AnswersCompact clients old new result
   pub leads : LeadsToBrief clients old new result o o'
+  pub own : KeepsOwnFile old o.files o'.files result

@@ -1,8 +1,11 @@
 -- A store whose journal is written anew in format 2.
-use Rattle.std.specs.Prelude.{◌≡◌, ◌⊎◌, ◌+◌, ◌-◌, ◌^◌, ◌<◌, ◌≤◌, true, false, [], Result, Ok, Err}
+use Rattle.std.specs.Prelude.{◌≡◌, ◌⊎◌, ◌+◌, ◌-◌, ◌^◌, ◌<◌, ◌≤◌, true, false, [], Option, Result, Ok, Err}
+use Rattle.outside.specs.Disk.{RelatesTold}
+use Rattle.outside.specs.Files.{Two, File}
 use Rattle.outside.specs.Outside.{Outside}
 use Rattle.sync_rules.specs.Clients.{Meaning}
 use Rattle.entry_codec.specs.declared.naming.Format.TheVariants as kind
+use Rattle.journal_migration.specs.Migrating.{KeepsFile}
 use Rattle.sync_store.specs.Store.{StoreValue, written_in}
 use Rattle.sync_store.specs.Runs.{LeadsBy}
 use Rattle.sync_store.specs.declared.fault.StoreFault.{StoreFault}
@@ -41,12 +44,20 @@ AnswersMigrate old new (Err fault.Memory) = IsInOldFormat old × (new ≡ old)
 AnswersMigrate old new (Err fault.DiskFault) =
     IsInOldFormat old × (new ≡ record old { closed = true })
 
+-- The file that the store's journal was in is as before, so it still has that journal. Where a call
+-- on the disk failed this is not said.
+abbrev pub KeepsOwnFile : StoreValue → (old new : Option (Two File)) → Result (Unit {0}) StoreFault
+    → Type 0
+KeepsOwnFile s old new (Err fault.DiskFault) = Unit {0}
+KeepsOwnFile s old new _ = RelatesTold (KeepsFile s.file) old new
+
 -- A store that is not closed was migrated, as far as the answer says: at each moment, and at the
--- end, the files stand for the same journal.
+-- end, the files stand for the same journal. The journal's own file is only read.
 pub record HasMigrated (clients : Meaning) (old new : StoreValue)
     (result : Result (Unit {0}) StoreFault) (o o' : Outside) : Type 0 where
   pub answer : AnswersMigrate old new result
   pub leads : LeadsBy clients old new o o' []
+  pub own : KeepsOwnFile old o.files o'.files result
 
 -- the disk is as before where no call on it is made: where the journal is in format 2, and where it
 -- has the last generation

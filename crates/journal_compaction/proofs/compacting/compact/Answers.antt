@@ -1,19 +1,23 @@
-use Rattle.std.proofs.Common.{ℕ, ◌+◌, ◌-◌, ◌^◌, ◌<◌, ◌≤◌, ap, subst, ◌∙◌, arith}
+use Rattle.std.proofs.Common.{ℕ, ◌+◌, ◌-◌, ◌^◌, ◌<◌, ◌≤◌, Err, ap, subst, ◌∙◌, arith}
 use Rattle.outside.specs.Disk.{RelatesTold}
 use Rattle.outside.specs.Files.{file_of}
 use Rattle.outside.specs.Steps.{PassedMoments}
-use Rattle.frame_journal.specs.Create.{PublishesHeader, ShutOrOpened}
+use Rattle.frame_journal.specs.Create.{LeavesClosed, PreparesJournal, PublishesHeader}
+use Rattle.frame_journal.specs.Create.{ShutOrOpened}
 use Rattle.frame_journal.specs.Journal.{JournalValue}
 use Rattle.journal_state.specs.Telling.{told_entries}
 use Rattle.journal_migration.specs.declared.fault.MigrationFault.TheVariants as migration
-use Rattle.journal_migration.specs.Starting.{EndsOrStays}
+use Rattle.journal_migration.specs.Starting.{ClearsAgain, EndsOrStays}
 use Rattle.journal_migration.proofs.Errors.{err_is}
+use Rattle.journal_migration.proofs.Own.{own_none}
 use Rattle.journal_compaction.specs.declared.fault.CompactionFault.TheVariants as fault
 use Rattle.journal_compaction.specs.Compacting.{compacted_len}
 use Rattle.journal_compaction.specs.Faults.{fault_of}
 use Rattle.journal_compaction.specs.Planning.{IsPlan}
 use Rattle.journal_compaction.proofs.Holding.{begun_failed, full_unmade, memory_unmade}
 use Rattle.journal_compaction.proofs.Limits.{fault_weighs, frames_fit, too_long, within_limit}
+use Rattle.journal_compaction.proofs.Own.{nothing_back, nothing_failed, nothing_unmade, own_back}
+use Rattle.journal_compaction.proofs.Own.{own_failed, own_published, own_unmade}
 use Rattle.journal_compaction.proofs.Publishing.{Begun, begun_so, compacted_so, open_failed}
 use Rattle.journal_compaction.proofs.Publishing.{opened_so, works_begun}
 use Rattle.journal_compaction.proofs.Publishing.{write_failed}
@@ -107,8 +111,8 @@ returns-in_err-writer-clause-compacts g c j two told same holds =
     (err_is c.from_residual-in_err-writer.result fault.DiskFault
     c.from_residual-in_err-writer.ensures.1)
 
-pub write_plan-requires-clause-room : goal.write_plan-requires-clause-room
-write_plan-requires-clause-room g c =
+pub write_account-requires-clause-room : goal.write_account-requires-clause-room
+write_account-requires-clause-room g c =
     let clients = g.C.Clients.meaning c.args.clients.now in
     let m = c.args.journal.now in
     let f = c.args.state.now.facts in
@@ -121,8 +125,8 @@ write_plan-requires-clause-room g c =
     c.in_ok-writer.writer.end
     (ap (λ (v : JournalValue). v.end) c.in_ok-writer.ensures.value) c.if-len-limit.false
 
-pub write_plan-requires-clause-works : goal.write_plan-requires-clause-works
-write_plan-requires-clause-works g c =
+pub write_account-requires-clause-works : goal.write_account-requires-clause-works
+write_account-requires-clause-works g c =
     let clients = g.C.Clients.meaning c.args.clients.now in
     let m = c.args.journal.now in
     let f = c.args.state.now.facts in
@@ -135,8 +139,8 @@ write_plan-requires-clause-works g c =
     c.begin.ensures.moments c.begin.ensures.run in
     works_begun m n0 o0 o1 begun
 
-pub returns-in_err-write_plan-clause-room : goal.returns-in_err-write_plan-clause-room
-returns-in_err-write_plan-clause-room g c =
+pub returns-in_err-write_account-clause-room : goal.returns-in_err-write_account-clause-room
+returns-in_err-write_account-clause-room g c =
     let clients = g.C.Clients.meaning c.args.clients.now in
     let m = c.args.journal.now in
     let f = c.args.state.now.facts in
@@ -148,13 +152,13 @@ returns-in_err-write_plan-clause-room g c =
     let within : compacted_len clients f ≤ c.args.limit =
     within_limit clients f p c.args.limit c.len.result c.requires.limit plan c.len.ensures
     c.if-len-limit.false in
-    let e = c.in_err-write_plan.field-0.0 in
-    fault_weighs clients f c.args.limit e c.from_residual-in_err-write_plan.result within
-    (err_is c.from_residual-in_err-write_plan.result (fault_of e)
-    c.from_residual-in_err-write_plan.ensures.1)
+    let e = c.in_err-write_account.field-0.0 in
+    fault_weighs clients f c.args.limit e c.from_residual-in_err-write_account.result within
+    (err_is c.from_residual-in_err-write_account.result (fault_of e)
+    c.from_residual-in_err-write_account.ensures.1)
 
-pub returns-in_err-write_plan-clause-compacts : goal.returns-in_err-write_plan-clause-compacts
-returns-in_err-write_plan-clause-compacts g c j two told same holds =
+pub returns-in_err-write_account-clause-compacts : goal.returns-in_err-write_account-clause-compacts
+returns-in_err-write_account-clause-compacts g c j two told same holds =
     let clients = g.C.Clients.meaning c.args.clients.now in
     let m = c.args.journal.now in
     let f = c.args.state.now.facts in
@@ -167,13 +171,13 @@ returns-in_err-write_plan-clause-compacts g c j two told same holds =
     begun_so m n0 c.file-file.result c.generation-generation.result o0 o1 c.file-file.ensures.value
     c.generation-generation.ensures c.in_ok-writer.ensures.value c.in_ok-writer.ensures.prepared
     c.begin.ensures.moments c.begin.ensures.run in
-    let e = c.in_err-write_plan.field-0.0 in
-    let o2 = g.D.Disk.tells c.write_plan.new.disk in
-    write_failed clients m n0 j two o0 o1 o2 e c.from_residual-in_err-write_plan.result few holds
+    let e = c.in_err-write_account.field-0.0 in
+    let o2 = g.D.Disk.tells c.write_account.new.disk in
+    write_failed clients m n0 j two o0 o1 o2 e c.from_residual-in_err-write_account.result few holds
     told begun
-    c.in_err-write_plan.ensures.shut c.in_err-write_plan.ensures.idle
-    (err_is c.from_residual-in_err-write_plan.result (fault_of e)
-    c.from_residual-in_err-write_plan.ensures.1)
+    c.in_err-write_account.ensures.shut c.in_err-write_account.ensures.back
+    (err_is c.from_residual-in_err-write_account.result (fault_of e)
+    c.from_residual-in_err-write_account.ensures.1)
 
 pub returns-in_err-publish-clause-room : goal.returns-in_err-publish-clause-room
 returns-in_err-publish-clause-room g c =
@@ -215,16 +219,16 @@ returns-in_err-publish-clause-compacts g c j two told same holds =
     begun_so m n0 c.file-file.result c.generation-generation.result o0 o1 c.file-file.ensures.value
     c.generation-generation.ensures c.in_ok-writer.ensures.value c.in_ok-writer.ensures.prepared
     c.begin.ensures.moments c.begin.ensures.run in
-    let n = c.write_plan.new.writer in
-    let o2 = g.D.Disk.tells c.write_plan.new.disk in
+    let n = c.write_account.new.writer in
+    let o2 = g.D.Disk.tells c.write_account.new.disk in
     let o3 = g.D.Disk.tells c.publish.new.disk in
     let many : m.generation + 1 < 2 ^ 64 = omega (arith, c.requires.generation) in
     open_failed c.cite_laws.ensures clients f p m n0 n j two o0 o1 o2 o3 told few many holds same
     c.requires.still
-    plan c.in_ok-write_plan.ensures.within room begun
-    c.in_ok-write_plan.ensures.adding c.in_ok-write_plan.ensures.works
-    c.in_ok-write_plan.ensures.shut
-    c.write_plan.ensures.run
+    plan c.in_ok-write_account.ensures.within room begun
+    c.in_ok-write_account.ensures.adding c.in_ok-write_account.ensures.works
+    c.in_ok-write_account.ensures.shut
+    c.write_account.ensures.run
     (λ t at. subst (λ (k : ℕ). PassedMoments t o2 o3 k (ShutOrOpened (file_of t k).now))
     c.file.ensures.value
     (c.publish.ensures.any_moment t at)) c.from_residual-in_err-publish.result
@@ -247,9 +251,9 @@ returns-clause-next g c =
     begun_so m n0 c.file-file.result c.generation-generation.result o0 o1 c.file-file.ensures.value
     c.generation-generation.ensures c.in_ok-writer.ensures.value c.in_ok-writer.ensures.prepared
     c.begin.ensures.moments c.begin.ensures.run in
-    compacted_so clients f p m n0 c.write_plan.new.writer o0 o1 o1.files
-    (g.D.Disk.tells c.write_plan.new.disk).files
-    plan begun c.in_ok-write_plan.ensures.adding
+    compacted_so clients f p m n0 c.write_account.new.writer o0 o1 o1.files
+    (g.D.Disk.tells c.write_account.new.disk).files
+    plan begun c.in_ok-write_account.ensures.adding
 
 pub returns-clause-room : goal.returns-clause-room
 returns-clause-room g c =
@@ -286,18 +290,138 @@ returns-clause-compacts g c j two told same holds =
     begun_so m n0 c.file-file.result c.generation-generation.result o0 o1 c.file-file.ensures.value
     c.generation-generation.ensures c.in_ok-writer.ensures.value c.in_ok-writer.ensures.prepared
     c.begin.ensures.moments c.begin.ensures.run in
-    let n = c.write_plan.new.writer in
-    let o2 = g.D.Disk.tells c.write_plan.new.disk in
+    let n = c.write_account.new.writer in
+    let o2 = g.D.Disk.tells c.write_account.new.disk in
     let o3 = g.D.Disk.tells c.publish.new.disk in
     let many : m.generation + 1 < 2 ^ 64 = omega (arith, c.requires.generation) in
     opened_so c.cite_laws.ensures clients f p m n0 n j two o0 o1 o2 o3 told few many holds same
     c.requires.still plan
-    c.in_ok-write_plan.ensures.within room begun
-    c.in_ok-write_plan.ensures.adding c.in_ok-write_plan.ensures.works
-    c.in_ok-write_plan.ensures.shut
-    c.write_plan.ensures.run
+    c.in_ok-write_account.ensures.within room begun
+    c.in_ok-write_account.ensures.adding c.in_ok-write_account.ensures.works
+    c.in_ok-write_account.ensures.shut
+    c.write_account.ensures.run
     (λ t at. subst (λ (k : ℕ). PassedMoments t o2 o3 k (ShutOrOpened (file_of t k).now))
     c.file.ensures.value
     (c.publish.ensures.any_moment t at))
     (subst (λ (k : ℕ). RelatesTold (PublishesHeader k) o2.files o3.files) c.file.ensures.value
     c.in_ok-publish.ensures.published)
+
+pub returns-in_err-told-clause-own : goal.returns-in_err-told-clause-own
+returns-in_err-told-clause-own g c =
+    own_unmade c.args.journal.now.file (g.D.Disk.tells c.args.disk.now).files
+    c.from_residual.result (err_is c.from_residual.result fault.Memory c.from_residual.ensures.1)
+
+pub returns-in_err-plan-clause-own : goal.returns-in_err-plan-clause-own
+returns-in_err-plan-clause-own g c =
+    own_unmade c.args.journal.now.file (g.D.Disk.tells c.args.disk.now).files
+    c.from_residual-in_err-plan.result
+    (err_is c.from_residual-in_err-plan.result fault.Memory c.from_residual-in_err-plan.ensures.1)
+
+pub returns-then-len-limit-clause-own : goal.returns-then-len-limit-clause-own
+returns-then-len-limit-clause-own g c =
+    own_none c.args.journal.now.file (g.D.Disk.tells c.args.disk.now).files
+
+pub returns-in_err-page-clause-own : goal.returns-in_err-page-clause-own
+returns-in_err-page-clause-own g c =
+    own_unmade c.args.journal.now.file (g.D.Disk.tells c.args.disk.now).files
+    c.from_residual-in_err-page.result
+    (err_is c.from_residual-in_err-page.result fault.Memory c.from_residual-in_err-page.ensures.1)
+
+pub returns-in_err-writer-clause-own : goal.returns-in_err-writer-clause-own
+returns-in_err-writer-clause-own g c =
+    own_failed c.args.journal.now.file (g.D.Disk.tells c.args.disk.now).files
+    (g.D.Disk.tells c.begin.new.disk).files c.from_residual-in_err-writer.result
+    (err_is c.from_residual-in_err-writer.result fault.DiskFault
+    c.from_residual-in_err-writer.ensures.1)
+
+pub returns-in_err-write_account-clause-own : goal.returns-in_err-write_account-clause-own
+returns-in_err-write_account-clause-own g c =
+    let m = c.args.journal.now in
+    let few : m.file < 2 =
+    subst (λ (k : ℕ). k < 2) c.file-file.ensures.value c.file-file.ensures.within in
+    let e = c.in_err-write_account.field-0.0 in
+    let other = ap (λ (k : ℕ). 1 - k) c.file-file.ensures.value in
+    let o1 = (g.D.Disk.tells c.begin.new.disk).files in
+    let o2 = (g.D.Disk.tells c.write_account.new.disk).files in
+    own_back m.file (1 - c.file-file.result) (c.generation-generation.result + 1) e
+    (g.D.Disk.tells c.args.disk.now).files o1 o2 c.from_residual-in_err-write_account.result few
+    other c.in_ok-writer.ensures.prepared
+    (subst (λ (k : ℕ). RelatesTold (LeavesClosed k) o1 o2)
+    (ap (λ (v : JournalValue). v.file) c.in_ok-writer.ensures.value)
+    c.write_account.ensures.leaves)
+    (err_is c.from_residual-in_err-write_account.result (fault_of e)
+    c.from_residual-in_err-write_account.ensures.1)
+
+pub returns-in_err-publish-clause-own : goal.returns-in_err-publish-clause-own
+returns-in_err-publish-clause-own g c =
+    own_failed c.args.journal.now.file (g.D.Disk.tells c.args.disk.now).files
+    (g.D.Disk.tells c.publish.new.disk).files c.from_residual-in_err-publish.result
+    (err_is c.from_residual-in_err-publish.result fault.DiskFault
+    c.from_residual-in_err-publish.ensures.1)
+
+pub returns-clause-own : goal.returns-clause-own
+returns-clause-own g c =
+    let m = c.args.journal.now in
+    let few : m.file < 2 =
+    subst (λ (k : ℕ). k < 2) c.file-file.ensures.value c.file-file.ensures.within in
+    let other = ap (λ (k : ℕ). 1 - k) c.file-file.ensures.value in
+    let begun = ap (λ (v : JournalValue). v.file) c.in_ok-writer.ensures.value in
+    let o1 = (g.D.Disk.tells c.begin.new.disk).files in
+    let o2 = (g.D.Disk.tells c.write_account.new.disk).files in
+    own_published m.file (1 - c.file-file.result) c.file.result
+    (c.generation-generation.result + 1) c.write_account.new.writer
+    (g.D.Disk.tells c.args.disk.now).files o1 o2 (g.D.Disk.tells c.publish.new.disk).files few
+    other
+    (c.file.ensures.value ∙ c.in_ok-write_account.ensures.adding.grows.file_is ∙ begun)
+    c.in_ok-writer.ensures.prepared
+    (subst (λ (k : ℕ). RelatesTold (LeavesClosed k) o1 o2) begun c.write_account.ensures.leaves)
+    c.in_ok-publish.ensures.published
+
+pub returns-in_err-told-clause-back : goal.returns-in_err-told-clause-back
+returns-in_err-told-clause-back g c =
+    nothing_unmade (1 - c.args.journal.now.file) (g.D.Disk.tells c.args.disk.now).files
+    c.from_residual.result (err_is c.from_residual.result fault.Memory c.from_residual.ensures.1)
+
+pub returns-in_err-plan-clause-back : goal.returns-in_err-plan-clause-back
+returns-in_err-plan-clause-back g c =
+    nothing_unmade (1 - c.args.journal.now.file) (g.D.Disk.tells c.args.disk.now).files
+    c.from_residual-in_err-plan.result
+    (err_is c.from_residual-in_err-plan.result fault.Memory c.from_residual-in_err-plan.ensures.1)
+
+pub returns-in_err-page-clause-back : goal.returns-in_err-page-clause-back
+returns-in_err-page-clause-back g c =
+    nothing_unmade (1 - c.args.journal.now.file) (g.D.Disk.tells c.args.disk.now).files
+    c.from_residual-in_err-page.result
+    (err_is c.from_residual-in_err-page.result fault.Memory c.from_residual-in_err-page.ensures.1)
+
+pub returns-in_err-writer-clause-back : goal.returns-in_err-writer-clause-back
+returns-in_err-writer-clause-back g c =
+    nothing_failed (1 - c.args.journal.now.file) (g.D.Disk.tells c.args.disk.now).files
+    (g.D.Disk.tells c.begin.new.disk).files c.from_residual-in_err-writer.result
+    (err_is c.from_residual-in_err-writer.result fault.DiskFault
+    c.from_residual-in_err-writer.ensures.1)
+
+pub returns-in_err-write_account-clause-back : goal.returns-in_err-write_account-clause-back
+returns-in_err-write_account-clause-back g c =
+    let m = c.args.journal.now in
+    let e = c.in_err-write_account.field-0.0 in
+    let other = ap (λ (k : ℕ). 1 - k) c.file-file.ensures.value in
+    let begun = ap (λ (v : JournalValue). v.file) c.in_ok-writer.ensures.value in
+    let o0 = (g.D.Disk.tells c.args.disk.now).files in
+    let o1 = (g.D.Disk.tells c.begin.new.disk).files in
+    let o2 = (g.D.Disk.tells c.write_account.new.disk).files in
+    nothing_back (1 - m.file) (c.generation-generation.result + 1) e
+    o0 o1 o2 c.from_residual-in_err-write_account.result
+    (subst (λ (k : ℕ). RelatesTold (PreparesJournal k 2 (c.generation-generation.result + 1)) o0 o1)
+    other c.in_ok-writer.ensures.prepared)
+    (subst (λ (k : ℕ). ClearsAgain {A = Unit {0}} k o1 o2 (Err e)) (begun ∙ other)
+    c.in_err-write_account.ensures.back)
+    (err_is c.from_residual-in_err-write_account.result (fault_of e)
+    c.from_residual-in_err-write_account.ensures.1)
+
+pub returns-in_err-publish-clause-back : goal.returns-in_err-publish-clause-back
+returns-in_err-publish-clause-back g c =
+    nothing_failed (1 - c.args.journal.now.file) (g.D.Disk.tells c.args.disk.now).files
+    (g.D.Disk.tells c.publish.new.disk).files c.from_residual-in_err-publish.result
+    (err_is c.from_residual-in_err-publish.result fault.DiskFault
+    c.from_residual-in_err-publish.ensures.1)

@@ -2,12 +2,14 @@ use Rattle.std.proofs.Common.{◌≡◌, ◌+◌, List, [], ◌∷◌, length, d
 use Rattle.std.proofs.lemmas.List.{drop_all, drop_more, take_more}
 use Rattle.outside.proofs.CallSteps.{run_none, run_then}
 use Rattle.frame_journal.proofs.ClearSteps.{on_ok_map}
+use Rattle.frame_journal.proofs.Closed.{leaves_none}
 use Rattle.entry_codec.specs.Spelling.{IsEntry}
 use Rattle.journal_compaction.specs.declared.items.Item.{Item}
 use Rattle.journal_compaction.specs.declared.items.Item.TheVariants as item
 use Rattle.journal_compaction.specs.Items.{entry_of}
 use Rattle.journal_compaction.specs.Paging.{closed_page, pages}
 use Rattle.journal_compaction.specs.Writing.{WritesPayloads, Written}
+use Rattle.journal_migration.proofs.Back.{leaves_on}
 use Rattle.journal_compaction.proofs.Pages.{all_more, written_all, written_more, written_none}
 use Rattle.journal_compaction.proofs.Working.{idle_works, shut_none, shut_then}
 use Rattle.journal_compaction.proofs.writing.write_items.Goals as goal
@@ -25,6 +27,7 @@ items-init g c =
       shut =
           shut_none c.args.writer.now.file o
           (idle_works c.args.writer.now o.files c.requires.works);
+      leaves = leaves_none c.args.writer.now.file o.files;
       run = run_none o;
     }
 
@@ -60,6 +63,10 @@ items-preserved g c =
           shut_then n0 n1 c.items.invariant.written.added o0 o1 o2 c.items.invariant.shut
           c.items.invariant.run
           c.items.invariant.written.adding c.in_ok-left.ensures.shut;
+      leaves =
+          leaves_on n0.file n1.file o0.files o1.files o2.files
+          c.items.invariant.written.adding.grows.file_is c.items.invariant.leaves
+          c.write_item.ensures.leaves;
       run = run_then o0 o1 o2 c.items.invariant.run c.in_ok-left.ensures.run;
     }
 
@@ -83,3 +90,17 @@ returns-clause-adding g c =
     o1 none
     c.items.invariant.written n2 o2 adding)
     c.flush.ensures.adding
+
+pub returns-in_err-left-clause-leaves : goal.returns-in_err-left-clause-leaves
+returns-in_err-left-clause-leaves g c =
+    leaves_on c.args.writer.now.file c.items.writer.file (g.D.Disk.tells c.args.disk.now).files
+    (g.D.Disk.tells c.items.disk).files (g.D.Disk.tells c.write_item.new.disk).files
+    c.items.invariant.written.adding.grows.file_is c.items.invariant.leaves
+    c.write_item.ensures.leaves
+
+pub returns-clause-leaves : goal.returns-clause-leaves
+returns-clause-leaves g c =
+    leaves_on c.args.writer.now.file c.items.writer.file (g.D.Disk.tells c.args.disk.now).files
+    (g.D.Disk.tells c.items.disk).files (g.D.Disk.tells c.flush.new.disk).files
+    c.items.invariant.written.adding.grows.file_is c.items.invariant.leaves
+    c.flush.ensures.leaves

@@ -1,10 +1,13 @@
 use Rattle.std.proofs.Common.{drop, take}
 use Rattle.std.specs.List.{AllByRecursion}
 use Rattle.std.specs.Option.{ForSome}
+use Rattle.outside.specs.Disk.{RelatesTold}
 use Rattle.outside.specs.Outside.{DiskRun}
+use Rattle.frame_journal.specs.Create.{LeavesClosed}
 use Rattle.entry_codec.specs.Spelling.{IsEntry}
 use Rattle.journal_compaction.specs.Items.{entry_of}
-use Rattle.journal_compaction.specs.Writing.{HasSpace, StaysShut, IsWriterShut, Written}
+use Rattle.journal_migration.specs.Starting.{StaysShut}
+use Rattle.journal_compaction.specs.Writing.{HasSpace, IsWriterShut, Written}
 use Rattle.journal_compaction.proofs.writing.write_items.Given as goal
 
 -- the items so far are written, or are in the payload that is being filled
@@ -18,5 +21,7 @@ invariant-items g l = record {
       (g.D.Disk.tells l.fn.disk).files (g.D.Disk.tells l.disk).files;
   works : ForSome (g.D.Disk.tells l.disk).files (IsWriterShut l.writer);
   shut : StaysShut l.fn.writer.file (g.D.Disk.tells l.fn.disk) (g.D.Disk.tells l.disk);
+  leaves : RelatesTold (LeavesClosed l.fn.writer.file) (g.D.Disk.tells l.fn.disk).files
+      (g.D.Disk.tells l.disk).files;
   run : DiskRun (g.D.Disk.tells l.fn.disk) (g.D.Disk.tells l.disk);
 }

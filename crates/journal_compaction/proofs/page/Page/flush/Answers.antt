@@ -2,6 +2,7 @@ use Rattle.std.proofs.Common.{◌≡◌, ℕ, ◌+◌, ◌≤◌, cond, List, []
 use Rattle.std.proofs.Common.{◌∙◌}
 use Rattle.std.specs.Prelude.{◌==◌}
 use Rattle.frame_journal.specs.Append.{framed_of}
+use Rattle.frame_journal.proofs.Closed.{leaves_none}
 use Rattle.journal_compaction.specs.Paging.{closed_page}
 use Rattle.journal_compaction.specs.Writing.{WritesPayloads}
 use Rattle.journal_compaction.proofs.Filling.{closed_some}
@@ -62,3 +63,11 @@ pub returns-clause-shut : goal.returns-clause-shut
 returns-clause-shut g c =
     shut_one c.args.writer.now c.as_slice-2.result.now (g.D.Disk.tells c.args.disk.now)
     (g.D.Disk.tells c.append.new.disk) c.requires.works c.append.ensures.any_moment
+
+pub returns-then-stays-clause-leaves : goal.returns-then-stays-clause-leaves
+returns-then-stays-clause-leaves g c =
+    leaves_none c.args.writer.now.file (g.D.Disk.tells c.args.disk.now).files
+
+pub returns-in_err-frame-clause-leaves : goal.returns-in_err-frame-clause-leaves
+returns-in_err-frame-clause-leaves g c =
+    leaves_none c.args.writer.now.file (g.D.Disk.tells c.args.disk.now).files

@@ -1,4 +1,5 @@
 use Rattle.std.proofs.Common.{◌∙◌, sym, refl, inl}
+use Rattle.journal_migration.proofs.Own.{own_none}
 use Rattle.sync_store.specs.declared.fault.StoreFault.TheVariants as fault
 use Rattle.sync_store.proofs.CompactSteps.{leads_unasked}
 use Rattle.sync_store.proofs.store.Store.compact.Goals as goal
@@ -9,4 +10,5 @@ returns-then-generation-eq18446744073709551615-clause-compacted g c still = reco
   leads =
       leads_unasked c.cite_laws.ensures.stand (g.C.Clients.meaning c.args.clients.now)
       c.args.self.now fault.Full (g.D.Disk.tells c.args.disk.now) c.is_closed.ensures.numbers;
+  own = own_none c.args.self.now.file (g.D.Disk.tells c.args.disk.now).files;
 }

@@ -1,5 +1,6 @@
 use Rattle.std.proofs.Common.{◌≡◌, ◌∙◌, sym, ap, refl, inl}
 use Rattle.entry_codec.specs.declared.naming.Format.TheVariants as kind
+use Rattle.journal_migration.proofs.Own.{own_none}
 use Rattle.sync_store.specs.Store.{format_meant, written_in}
 use Rattle.sync_store.proofs.MigrateSteps.{leads_still}
 use Rattle.sync_store.proofs.store.Store.migrate.Goals as goal
@@ -19,6 +20,7 @@ returns-then-generation-eq18446744073709551615-clause-migrated g c still =
       );
       leads = leads_still c.cite_laws.ensures.stand (g.C.Clients.meaning c.args.clients.now) s
           (g.D.Disk.tells c.args.disk.now) c.is_closed.ensures.numbers;
+      own = own_none s.file (g.D.Disk.tells c.args.disk.now).files;
     }
 
 pub returns-in-Short-clause-migrated : goal.returns-in-Short-clause-migrated
@@ -30,4 +32,5 @@ returns-in-Short-clause-migrated g c still =
       answer = inl (short, refl);
       leads = leads_still c.cite_laws.ensures.stand (g.C.Clients.meaning c.args.clients.now) s
           (g.D.Disk.tells c.args.disk.now) c.is_closed.ensures.numbers;
+      own = own_none s.file (g.D.Disk.tells c.args.disk.now).files;
     }

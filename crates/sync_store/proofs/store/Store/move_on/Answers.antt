@@ -1,4 +1,4 @@
-use Rattle.std.proofs.Common.{◌≡◌, false, true, Ok, Err, inr, refl, sym, ap, ◌∙◌, subst}
+use Rattle.std.proofs.Common.{◌≡◌, ℕ, false, true, Ok, Err, inr, refl, sym, ap, ◌∙◌, subst}
 use Rattle.outside.specs.Disk.{RelatesTold}
 use Rattle.journal_state.specs.Whole.{KnowsJudgements}
 use Rattle.journal_migration.specs.Migrating.{KeepsFile}
@@ -32,6 +32,8 @@ returns-in-Ok-clause-migrated g c =
     (record {
       answer = inr (moves_on s n old still next);
       leads = leads_moved clients s n o o' old next.format_is gives;
+      own = subst (λ (k : ℕ). RelatesTold (KeepsFile k) o.files o'.files) c.file-file.ensures.value
+          c.in-Ok.ensures.own;
     })
 
 pub returns-in-Ok-clause-ready : goal.returns-in-Ok-clause-ready
@@ -77,6 +79,8 @@ returns-in-Err-Memory-clause-migrated g c =
           c.file-file.ensures.value own)
           (subst (λ (e : MigrationFault). Gives clients s (Err e) o o') c.in-Err-Memory.field-0-is
           gives);
+      own = subst (λ (k : ℕ). RelatesTold (KeepsFile k) o.files o'.files) c.file-file.ensures.value
+          own;
     })
 
 pub returns-in-Err-Memory-clause-ready : goal.returns-in-Err-Memory-clause-ready
@@ -126,4 +130,5 @@ returns-in-Err-DiskFault-clause-migrated g c =
           leads_failed clients s new o o' old refl
           (subst (λ (e : MigrationFault). Gives clients s (Err e) o o')
           c.in-Err-DiskFault.field-0-is gives);
+      own = tt;
     })

@@ -3,7 +3,7 @@ use Rattle.std.proofs.Common.{subst}
 use Rattle.sync_rules.specs.Steps.{IsSettled}
 use Rattle.entry_codec.specs.declared.naming.Format.TheVariants as kind
 use Rattle.journal_state.specs.Whole.{KnowsJudgements}
-use Rattle.journal_compaction.specs.Compacting.{WeighsAccount}
+use Rattle.journal_compaction.specs.Compacting.{KeepsOwn, WeighsAccount}
 use Rattle.journal_compaction.specs.declared.fault.CompactionFault.{CompactionFault}
 use Rattle.sync_store.specs.declared.fault.StoreFault.TheVariants as fault
 use Rattle.sync_store.specs.Compactions.{StoreHasCompacted}
@@ -68,6 +68,7 @@ returns-in-Ok-clause-compacted g c =
       leads = leads_shortened clients s m o o' short c.self.invariant c.cite_laws.ensures.keeps
           state n tt settled c.forget.ensures.facts c.in-Ok.ensures.next.format_is
           c.in-Ok.ensures.compacts;
+      own = c.in-Ok.ensures.own;
     })
 
 pub returns-in-Ok-clause-ready : goal.returns-in-Ok-clause-ready
@@ -117,6 +118,8 @@ returns-in-Err-Full-clause-compacted g c =
       leads = leads_full clients s m o o' short c.self.invariant
           (subst (λ (e : CompactionFault). GivesBrief clients s m (Err e) o o')
           c.in-Err-Full.field-0-is c.in-Err-Full.ensures.compacts);
+      own = subst (λ (e : CompactionFault). KeepsOwn m.file o.files o'.files (Err e))
+          c.in-Err-Full.field-0-is c.in-Err-Full.ensures.own;
     })
 
 pub returns-in-Err-Full-clause-ready : goal.returns-in-Err-Full-clause-ready
@@ -161,6 +164,8 @@ returns-in-Err-Memory-clause-compacted g c =
       leads = leads_wanting clients s m o o' short c.self.invariant
           (subst (λ (e : CompactionFault). GivesBrief clients s m (Err e) o o')
           c.in-Err-Memory.field-0-is c.in-Err-Memory.ensures.compacts);
+      own = subst (λ (e : CompactionFault). KeepsOwn m.file o.files o'.files (Err e))
+          c.in-Err-Memory.field-0-is c.in-Err-Memory.ensures.own;
     })
 
 pub returns-in-Err-Memory-clause-ready : goal.returns-in-Err-Memory-clause-ready
@@ -209,4 +214,5 @@ returns-in-Err-DiskFault-clause-compacted g c =
       leads = leads_broken clients s m o o' short c.self.invariant new refl
           (subst (λ (e : CompactionFault). GivesBrief clients s m (Err e) o o')
           c.in-Err-DiskFault.field-0-is c.in-Err-DiskFault.ensures.compacts);
+      own = tt;
     })
