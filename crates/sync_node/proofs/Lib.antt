@@ -15,6 +15,6 @@ pub mod BatchLaws
 mod LinkActs
 mod SendActs
 mod RunActLaws
-mod StartActs
+pub mod StartActs
 pub mod EventLaws
 pub mod NodeRuns

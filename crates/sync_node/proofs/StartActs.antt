@@ -23,7 +23,8 @@ use Rattle.outside.specs.declared.limits.TheConstants.{MAX_JOURNAL, LINKS}
 use Rattle.outside.specs.Host.{SendsOnLink}
 use Rattle.outside.specs.Outside.{Outside}
 use Rattle.outside.proofs.RunLaws.{front_same}
-use Rattle.sync_store.specs.Fitting.{ImagesStand}
+use Rattle.outside.specs.Files.{Two, File}
+use Rattle.sync_store.specs.Fitting.{FitsFiles, ImagesStand}
 use Rattle.sync_store.specs.Ready.{IsReady}
 use Rattle.sync_store.specs.Store.{StoreValue, written_in}
 use Rattle.sync_course.specs.Acts.{Act, Does, Fail, Send, commit_acts}
@@ -117,16 +118,13 @@ session_last (y ∷ ss) x none =
       | false ↦ λ is. session_last ss x is
     ] none
 
--- the next number is free
-pub is_free : (clients : Meaning) (f : Facts) (x : Session) (j : List (List Entry)) → Legal clients j
-    → facts j ≡ f → Allowed clients f (session_batch x)
-    → session_at f.sessions x.number ≡ None
-is_free clients f x j legal is allowed =
-    let has = legal_sessions clients j legal in
-    let may : Allowed clients (facts j) (session_batch x) = subst (λ (g : Facts). Allowed clients g (session_batch x)) (sym is) allowed in
-    let none : session_at (facts j).sessions x.number ≡ None =
-    ap (λ (n : ℕ). session_at (facts j).sessions n) may.2.numbered ∙ none_below (facts j).begun (facts j).sessions has.below in
-    subst (λ (g : Facts). session_at g.sessions x.number ≡ None) is none
+-- no session of a journal that a disk fits has the next number
+pub free_next : (clients : Meaning) (s : StoreValue) (j : List (List Entry)) (two : Two File)
+    → FitsFiles clients s j two
+    → session_at s.state.facts.sessions s.state.facts.begun ≡ None
+free_next clients s j two fits =
+    subst (λ (g : Facts). session_at g.sessions g.begun ≡ None) fits.facts_are
+    (none_below (facts j).begun (facts j).sessions (legal_sessions clients j fits.legal).below)
 
 pub begun_is : (f f' : Facts) (x begun : Session) → session_at f.sessions x.number ≡ None
     → f' ≡ after_all f (session_batch x)
@@ -388,15 +386,14 @@ module _ (clients : Meaning) (x : Session) (s : StoreValue) (o : Outside) (batch
       }
 
   pub start_went : (n : ℕ) (first second : List ℕ) (begun : Session) (reader : ReaderState)
-      (l : Link) (s1 : StoreValue) (o1 o2 : Outside) → IsReady clients s o.files
-      → Committed clients batch s s1 o o1
+      (l : Link) (s1 : StoreValue) (o1 o2 : Outside) → Committed clients batch s s1 o o1
       → s1.end + room_of (written_in s1) s1.state.facts ≤ MAX_JOURNAL
       → first ++ second ≡ spelled (first_records x)
       → Some begun ≡ session_at s1.state.facts.sessions x.number
       → reader ≡ fresh_reader → AwaitsBytes fresh_reader
       → GreetsBy n first second (record { session = begun; reader = reader; nonce = begun.nonce; end = link_end.Going }) l o1 o2
       → SessionBegan clients n x l s s1 o o2 → StartWent clients n x l s s1 o o2
-  start_went n first second begun reader l s1 o1 o2 ready commits roomy bytes found is_fresh awaits greets has =
+  start_went n first second begun reader l s1 o1 o2 commits roomy bytes found is_fresh awaits greets has =
       let as_is : s1.state.facts ≡ after_all s.state.facts (session_batch x) = commits.facts ∙ ap (λ (b : List Entry). after_all s.state.facts b) is in
       record {
         begun = has;
@@ -405,9 +402,9 @@ module _ (clients : Meaning) (x : Session) (s : StoreValue) (o : Outside) (batch
             still_so (HasRead []) _ l greets.sent
             (λ _. subst (λ (r : ReaderState). HasRead [] r) (sym is_fresh)
             (fresh_has_read awaits awaits.nothing));
-        went = λ two told terms left links moved still made long numbered.
-            let some = ready.fits two told in
-            let same : begun ≡ x = begun_is s.state.facts s1.state.facts x begun (is_free clients s.state.facts x some.0 some.1.legal some.1.facts_are allowed) as_is found in
+        went = λ free terms left links moved still made long numbered.
+            let same : begun ≡ x =
+            begun_is s.state.facts s1.state.facts x begun free as_is found in
             starts_there terms left links moved still made n long numbered first second bytes s1 o1 o2 commits roomy begun reader same l greets;
       }
 
@@ -463,7 +460,7 @@ module _ (clients : Meaning) (x y : Session) (is : x ≡ y) (links : List Link) 
                   (subst (λ (bytes : List ℕ). IsLinkRead bytes y) (sym none)
                   (subst (IsLinkRead []) (sym new.1) behind.starts.has_read))
             ];
-        went = λ two told terms left heard moved still made none numbered.
+        went = λ free terms left heard moved still made none numbered.
             let plain : length links ≡ 0 + length links = omega arith in
             let ends : links_from 0 links heard ++ link_at behind.link [] ∷ []
             ≡ links_from 0 links' heard =
@@ -478,7 +475,7 @@ module _ (clients : Meaning) (x y : Session) (is : x ≡ y) (links : List Link) 
             (place_at (Attaches (x ∷ left)) links heard moved still made s.state.facts)
             (place_with (Attaches left) ls moved still made s'.state.facts) s s' o o')
             ends
-            (behind.starts.went two told terms left (links_from 0 links heard) moved still made
+            (behind.starts.went free terms left (links_from 0 links heard) moved still made
             (length_from 0 links heard ∙ last)
             (numbered ∙ ap (λ (k : ℕ). terms.first + k) last));
       })

@@ -1,12 +1,11 @@
 -- What the calls of a node came to: where they led on the machine of a run, or where they stopped.
-use Rattle.std.specs.Prelude.{◌≡◌, ◌⊎◌, ℕ, suc, ◌+◌, ◌≤◌, Bool, true, false, cond, not, nat_lt, slice_get, List, [], ◌∷◌, ◌++◌, length, IfSome, Option, Some}
+use Rattle.std.specs.Prelude.{◌≡◌, ◌⊎◌, ℕ, suc, ◌+◌, ◌≤◌, Bool, true, false, cond, not, nat_lt, slice_get, List, [], ◌∷◌, ◌++◌, length, IfSome, Option, None, Some}
 use Rattle.entry_codec.specs.Standing.{room_of}
 use Rattle.outside.specs.declared.limits.TheConstants.{MAX_JOURNAL}
-use Rattle.outside.specs.Files.{Two, File}
 use Rattle.outside.specs.Outside.{Outside}
 use Rattle.sync_rules.specs.declared.entries.Entry.TheVariants as entry
 use Rattle.sync_rules.specs.declared.entries.Session.{Session}
-use Rattle.sync_rules.specs.Facts.{after_all}
+use Rattle.sync_rules.specs.Facts.{after_all, session_at}
 use Rattle.sync_rules.specs.Clients.{Meaning}
 use Rattle.sync_store.specs.Store.{StoreValue, written_in}
 use Rattle.sync_course.specs.Acts.{Act, Fail, Send}
@@ -180,15 +179,15 @@ pub record GreetsBy (n : ℕ) (first second : List ℕ) (l l' : Link) (o o' : Ou
   pub did : (clients : Meaning) (s : StoreValue)
       → s.end + room_of (written_in s) s.state.facts ≤ MAX_JOURNAL → Did clients acts s s o o'
 
--- A session began: where files are told, on the link of this number, behind the others, and greeted
--- there. Nothing was heard on it.
+-- A session began: where no session had its number, as it is in each legal journal, on the link of
+-- this number, behind the others, and greeted there. Nothing was heard on it.
 pub record StartWent (clients : Meaning) (n : ℕ) (session : Session) (l : Link)
     (s s' : StoreValue) (o o' : Outside) : Type 0 where
   pub begun : SessionBegan clients n session l s s' o o'
   pub has_read : IsLinkRead [] l
   pub facts : s'.state.facts ≡ after_all s.state.facts (entry.Session session ∷ [])
-  pub went : (two : Two File) → o.files ≡ Some two → (terms : Terms) (left : List Session)
-      (links : List course_links.Link) (moved : Bool) (still made : ℕ) → length links ≡ n
+  pub went : session_at s.state.facts.sessions session.number ≡ None → (terms : Terms)
+      (left : List Session) (links : List course_links.Link) (moved : Bool) (still made : ℕ) → length links ≡ n
       → session.number ≡ terms.first + n
       → RunWent clients terms (place_with (Attaches (session ∷ left)) links moved still made s.state.facts)
       (place_with (Attaches left) (links ++ link_at l [] ∷ []) moved still made s'.state.facts) s s' o o'
@@ -216,15 +215,15 @@ pub record StartWentLast (clients : Meaning) (n : ℕ) (session : Session) (link
   pub starts : StartWent clients n session link s s' o o'
   pub pushed : links' ≡ links ++ link ∷ []
 
--- The next session began: where files are told, on the link behind those of a node, on which nothing
--- was heard.
+-- The next session began: where none had its number, on the link behind those of a node, on which
+-- nothing was heard.
 pub record BeginWent (clients : Meaning) (session : Session) (links links' : List Link)
     (s s' : StoreValue) (o o' : Outside) : Type 0 where
   pub facts : s'.state.facts ≡ after_all s.state.facts (entry.Session session ∷ [])
   pub has_read : (heard : ℕ → List ℕ) → heard (length links) ≡ [] → AllRead heard links
       → AllRead heard links'
-  pub went : (two : Two File) → o.files ≡ Some two → (terms : Terms) (left : List Session)
-      (heard : ℕ → List ℕ) (moved : Bool) (still made : ℕ) → heard (length links) ≡ []
+  pub went : session_at s.state.facts.sessions session.number ≡ None → (terms : Terms)
+      (left : List Session) (heard : ℕ → List ℕ) (moved : Bool) (still made : ℕ) → heard (length links) ≡ []
       → session.number ≡ terms.first + length links
       → RunWent clients terms
       (place_at (Attaches (session ∷ left)) links heard moved still made s.state.facts)

@@ -1,14 +1,14 @@
 -- The sessions of a run that begin one after another, and its turns.
 use Rattle.std.proofs.Common.{◌≡◌, ℕ, suc, ◌+◌, ◌<◌, Bool, true, false, cond, ◌||◌, List, []}
-use Rattle.std.proofs.Common.{◌∷◌, drop, get_or, length, refl, sym, ◌∙◌, ap, subst, arith, Some}
-use Rattle.std.proofs.Common.{is_some, Result, Ok, Err, add-one, drop-cons}
+use Rattle.std.proofs.Common.{◌∷◌, drop, get_or, length, refl, sym, ◌∙◌, ap, subst, arith, None}
+use Rattle.std.proofs.Common.{Some, is_some, Result, Ok, Err, add-one, drop-cons}
 use Rattle.std.specs.Prelude.{map, nat_le, nat_lt, not, slice_get, IfErr, IsErrAnd}
 use Rattle.std.proofs.lemmas.Bool.{lt-leb, lt-ltb}
 use Rattle.outside.specs.Files.{Two, File}
 use Rattle.outside.specs.Outside.{Outside}
 use Rattle.sync_rules.specs.declared.entries.Session.{Session}
 use Rattle.sync_rules.specs.Clients.{Meaning}
-use Rattle.sync_rules.specs.Facts.{Facts}
+use Rattle.sync_rules.specs.Facts.{Facts, session_at}
 use Rattle.sync_rules.specs.Steps.{IsSettled}
 use Rattle.sync_store.specs.Store.{StoreValue}
 use Rattle.sync_course.specs.Acts.{Does}
@@ -138,11 +138,13 @@ module _ (clients : Meaning) (dialled : List Dialled) (i : ℕ) (d : Dialled)
       SessionsBegin clients dialled (sessions_from n.store.state.facts.begun ds) n0 n o0 o)
       (drop_next dialled i d within is) so
 
-  pub attached_more : is_some o'.files ≡ is_some o.files
+  pub attached_more : ((two : Two File) → o.files ≡ Some two
+      → session_at n.store.state.facts.sessions n.store.state.facts.begun ≡ None)
+      → is_some o'.files ≡ is_some o.files
       → BeginWent clients session n.links n'.links n.store n'.store o o'
       → SessionsBegin clients dialled
       (sessions_from n'.store.state.facts.begun (drop (i + 1) dialled)) n0 n' o0 o'
-  attached_more told begins =
+  attached_more free told begins =
       let more : suc n.store.state.facts.begun ≡ n'.store.state.facts.begun =
       omega (arith, ap (λ (f : Facts). f.begun) begins.facts) in
       subst (λ (k : ℕ). SessionsBegin clients dialled (sessions_from k (drop (i + 1) dialled))
@@ -154,7 +156,7 @@ module _ (clients : Meaning) (dialled : List Dialled) (i : ℕ) (d : Dialled)
             let terms : Terms = terms_at limits n0.first in
             went_then clients (RunActs clients terms) _ _ _ n0.store n.store n'.store o0 o o'
             (so_next.went two files limits)
-            (begins.went there.0 there.1 terms left silent false 0 0 refl numbered);
+            (begins.went (free there.0 there.1) terms left silent false 0 0 refl numbered);
       })
 
   pub attaching_stopped : (x : NodeFault)

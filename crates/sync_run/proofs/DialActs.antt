@@ -34,7 +34,8 @@ use Rattle.sync_words.specs.declared.outcome.Outcome.TheVariants as outcome
 use Rattle.sync_words.specs.Links.{has_nonce}
 use Rattle.sync_run.specs.declared.dialling.Dialled.{Dialled}
 use Rattle.sync_run.specs.declared.run.Limits.{Limits}
-use Rattle.sync_run.specs.Courses.{HearsRun, RanSoFar, RunWasSpent, terms_of}
+use Rattle.sync_run.specs.Courses.{HearsRun, RanShort, RanSoFar, ReadsShort, RunWasSpent}
+use Rattle.sync_run.specs.Courses.{terms_of}
 use Rattle.sync_run.specs.Dialling.{DialsOnly, DialsAll, MakesLinks, unheard}
 use Rattle.sync_run.specs.Parts.{RanDialled, RanOnLinks, RunDid}
 use Rattle.sync_run.specs.Plans.{ArePlanned, sessions_from}
@@ -200,8 +201,9 @@ module _ (clients : Meaning) (limits : Limits) (words : List LinkWords) (links :
         hears = hears_dialled words (events_of over.did.acts) o0 o1 o none makes over.told
             goes.same_dialled;
         answer =
-            answers_map clients limits terms over.did.to (MayMigrate o1.files)
-            (RunWasSpent [] o1 o) ⊥ (MayMigrate o0.files) (RunWasSpent words o0 o) (ReadsAs clients o.files j)
+            answers_map clients limits terms over.did.to (ReadsShort o.files) (MayMigrate o1.files)
+            (RunWasSpent [] o1 o) ⊥ (MayMigrate o0.files) (RunWasSpent words o0 o)
+            (o.files ≡ o0.files)
             (j ++ batches_in over.did.acts) (j ++ batches_in over.did.acts) refl
             (λ may two told. may two (calms.same_files ∙ told)) (spent_so o makes)
             (λ undialled. absurd undialled) r over.answer;
@@ -223,14 +225,14 @@ module _ (clients : Meaning) (limits : Limits) (words : List LinkWords) (links :
         made = inr refl;
         grows = calms.grows;
         hears = hears_dialled dials.made [] o0 o1 o1 none dials.makes (told_none o1) refl;
-        answer = calm_reads clients s o0 o1 calms j fit;
+        answer = calms.same_files;
       }
 
 -- the run did not begin
-pub unbegun : (clients : Meaning) (limits : Limits) (words made : List LinkWords) (j : Journal)
+abbrev none_ran : (clients : Meaning) (limits : Limits) (words made : List LinkWords) (j : Journal)
     (o0 o : Outside) → o0.links.dialled ≡ 0 → MakesLinks made o0.links o.links
     → ReadsAs clients o.files j → RanSoFar clients limits words j o0 o
-unbegun clients limits words made j o0 o none makes reads =
+none_ran clients limits words made j o0 o none makes reads =
     let some = some_planned (facts j).begun words in
     record {
       sessions = some.0;
@@ -243,3 +245,17 @@ unbegun clients limits words made j o0 o none makes reads =
       hears = hears_dialled made [] o0 o o none makes (told_none o) refl;
       reads = subst (λ (k : Journal). ReadsAs clients o.files k) (sym (append-nil j)) reads;
     }
+
+pub unbegun : (clients : Meaning) (limits : Limits) (words made : List LinkWords) (j : Journal)
+    (o0 o : Outside) → o0.links.dialled ≡ 0 → MakesLinks made o0.links o.links
+    → ReadsAs clients o.files j → RanSoFar clients limits words j o0 o
+unbegun = none_ran
+
+-- the same for want of memory
+pub unbegun_starved : (clients : Meaning) (limits : Limits) (words made : List LinkWords)
+    (j : Journal) (o0 o : Outside) → o0.links.dialled ≡ 0 → MakesLinks made o0.links o.links
+    → ReadsAs clients o.files j → RanShort clients limits words j o0 o
+unbegun_starved clients limits words made j o0 o none makes reads = record {
+  run = none_ran clients limits words made j o0 o none makes reads;
+  short = λ begun. absurd (omega (arith, begun));
+}

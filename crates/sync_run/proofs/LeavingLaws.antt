@@ -24,13 +24,14 @@ use Rattle.sync_words.specs.declared.link_words.LinkWords.{LinkWords}
 use Rattle.sync_words.specs.Outcomes.{links_came_to}
 use Rattle.sync_words.specs.declared.outcome.Outcome.{Outcome}
 use Rattle.sync_words.specs.declared.outcome.Outcome.TheVariants as outcome
-use Rattle.sync_run.proofs.DialActs.{unbegun}
+use Rattle.sync_run.proofs.DialActs.{unbegun, unbegun_starved}
 use Rattle.sync_run.proofs.DialLaws.{no_links_made}
 use Rattle.sync_run.proofs.RunActs.{passed}
 use Rattle.sync_run.proofs.TellLaws.{nothing_sent, reads_told, silent_by}
 use Rattle.sync_run.proofs.WordLaws.{specs_disk}
 use Rattle.sync_run.specs.Causes.{IsCaused, IsOfRun}
-use Rattle.sync_run.specs.Courses.{RanSoFar, RunComesTo, TestsWords, is_unknown, run_test}
+use Rattle.sync_run.specs.Courses.{RanShort, RanSoFar, RunComesTo, TestsWords, is_unknown}
+use Rattle.sync_run.specs.Courses.{run_test}
 use Rattle.sync_run.specs.Headline.{Headline, IsUntouched, LeavesFilesAtRest}
 use Rattle.sync_run.specs.Leaving.{LeavesLinks, MakesFront}
 use Rattle.sync_run.specs.Ran.{HasRun, RanTold}
@@ -98,12 +99,19 @@ module _ (clients : Meaning) (limits : Limits) (words : List LinkWords) (two : T
   broken_early begin began =
       unbegun clients limits words [] begin o o' none (no_links_made o o' same) (still begin began)
 
+  -- for want of memory
+  pub starved_early : (begin : Journal) → stood ≡ journal begin
+      → RanShort clients limits words begin o o'
+  starved_early begin began =
+      unbegun_starved clients limits words [] begin o o' none (no_links_made o o' same)
+      (still begin began)
+
   pub load_comes : (came : Outcome) → LoadedBy o o' (Err came) → IsLoaded stood (Err came)
       → RunComesTo clients limits words stood o o' (Err came)
   load_comes outcome.NoStore by loaded = loaded
   load_comes (outcome.Damaged place) by loaded = loaded
   load_comes outcome.DiskFault by loaded = broken_early
-  load_comes outcome.Memory by loaded = broken_early
+  load_comes outcome.Memory by loaded = starved_early
   load_comes _ by loaded = absurd by
 
   pub refused_comes : (s : StoreValue) → HasFacts stood s → (why : Refused)

@@ -55,8 +55,9 @@ use Rattle.sync_words.specs.declared.link_words.LinkWords.{LinkWords}
 use Rattle.sync_words.specs.declared.outcome.Outcome.{Outcome}
 use Rattle.sync_words.specs.declared.outcome.Outcome.TheVariants as outcome
 use Rattle.sync_run.specs.declared.run.Limits.{Limits}
-use Rattle.sync_run.specs.Courses.{HearsRun, OfJournal, RanSoFar, RanToEnd, RunComesTo}
-use Rattle.sync_run.specs.Courses.{RunWasSpent, WasFull, WasOver, run_test, terms_of}
+use Rattle.sync_run.specs.Courses.{HearsRun, OfJournal, RanShort, RanSoFar, RanToEnd}
+use Rattle.sync_run.specs.Courses.{ReadsShort, RunComesTo, RunWasSpent, WasFull, WasOver}
+use Rattle.sync_run.specs.Courses.{run_test, terms_of}
 use Rattle.sync_run.specs.Dialling.{MakesLinks, PassesTime, unheard}
 use Rattle.sync_run.specs.Headline.{AllSentWhenFull, IsUntouched, LeavesFilesAtRest, RunLeaves}
 use Rattle.sync_run.specs.Headline.{SentWhole, StandsForRun, sent_at_moment}
@@ -397,11 +398,14 @@ module _ (clients : Meaning) (limits : Limits) (words : List LinkWords) (s : Sto
       (one_journal now whole (sym (reads_end told) ∙ ends))
 
   abbrev answer_as : (x : Result Closing Outcome) → r ≡ x
-      → AnswersAt clients limits terms ran.did.to now (MayMigrate o1.files)
-      (RunWasSpent words o1 o2) (ReadsAs clients o2.files loaded.of) x
+      → AnswersAt clients limits terms ran.did.to now (ReadsShort o2.files) (MayMigrate o1.files)
+      (RunWasSpent words o1 o2) (o2.files ≡ o1.files) x
   answer_as x is =
-      subst (AnswersAt clients limits terms ran.did.to now (MayMigrate o1.files)
-      (RunWasSpent words o1 o2) (ReadsAs clients o2.files loaded.of)) is ran.answer
+      subst (AnswersAt clients limits terms ran.did.to now (ReadsShort o2.files)
+      (MayMigrate o1.files) (RunWasSpent words o1 o2) (o2.files ≡ o1.files)) is ran.answer
+
+  short_as : ReadsShort o2.files → ReadsShort o3.files
+  short_as = subst ReadsShort (sym stills.same_files)
 
   -- what was told of the files after the load
   told_loaded : (old : Two File) → o0.files ≡ Some old
@@ -483,7 +487,7 @@ module _ (clients : Meaning) (limits : Limits) (words : List LinkWords) (s : Sto
             (hears.faults i))
         | inr well ↦
             inr (sent_as told begin final began at_end i
-            (well_sent told (filled_sent fills) i well))
+            (well_sent told (filled_sent fills.0) i well))
       ]
       -- where nothing was done no session began
       | inr spent ↦
@@ -519,10 +523,12 @@ module _ (clients : Meaning) (limits : Limits) (words : List LinkWords) (s : Sto
           next = λ old told spent.
               let at = told_loaded old told in
               answer.1 at.0 at.1 (subst HasLastGeneration (sym at.2) spent);
+          short = short_as answer.2;
         }
 
-    over : FillsAt clients terms ran.did.to now → WasOver clients limits words loaded.of o0 o3
-    over fills = record {
+    over : FillsAt clients terms ran.did.to now → ReadsShort o2.files
+        → WasOver clients limits words loaded.of o0 o3
+    over fills short = record {
       run = was;
       batch = fills.batch;
       next = fills.next.at;
@@ -537,6 +543,7 @@ module _ (clients : Meaning) (limits : Limits) (words : List LinkWords) (s : Sto
           let same : l ≡ failed.link = cc in
           unfailed (ap (λ (x : course_links.Link). x.stands) same ∙ failed.failed))
           ∙ ap (λ (bs : Journal). output (loaded.of ++ bs) (first + i)) (sym way.thins.batches);
+      short = short_as short;
     }
 
     tested : run_test (facts loaded.of) words ≡ None
@@ -549,19 +556,29 @@ module _ (clients : Meaning) (limits : Limits) (words : List LinkWords) (s : Sto
     broken begin began =
         subst (λ (j : Journal). RanSoFar clients limits words j o0 o3) (same_begin begin began) was
 
+    starved : r ≡ Err outcome.Memory → (begin : Journal) → stood ≡ journal begin
+        → RanShort clients limits words begin o0 o3
+    starved is begin began =
+        subst (λ (j : Journal). RanShort clients limits words j o0 o3) (same_begin begin began)
+        (record {
+          run = was;
+          short = λ begun. short_as (answer_as (Err outcome.Memory) is begun);
+        })
+
     comes : (x : Result Closing Outcome) → r ≡ x → RunComesTo clients limits words stood o0 o3 x
     comes (Ok ends) is =
         of_journal (λ j. RanToEnd clients limits words j o0 o3 ends) (ended ends is)
     comes (Err (outcome.LinkFailed link)) is =
-        let files = answer_as (Err (outcome.LinkFailed link)) is in
-        of_journal (ReadsAs clients o3.files) (files.0, stills.same_files ∙ files.1, files.2)
+        let same = answer_as (Err (outcome.LinkFailed link)) is in
+        of_journal (λ j. RelatesTold ReadsSame o0.files o3.files)
+        (subst (RelatesTold ReadsSame o0.files) (sym (stills.same_files ∙ same)) reads)
     comes (Err outcome.Full) is =
         of_journal (λ j. WasFull clients limits words j o0 o3)
         (elim (answer_as (Err outcome.Full) is) [
-          | inl fills ↦ inl (over fills)
+          | inl fills ↦ inl (over fills.0 fills.1)
           | inr spent ↦ inr (spent_as spent)
         ])
-    comes (Err outcome.Memory) is = broken
+    comes (Err outcome.Memory) is = starved is
     comes (Err outcome.DiskFault) is = broken
     comes (Err e) is = absurd (answer_as (Err e) is)
 

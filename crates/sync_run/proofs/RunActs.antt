@@ -28,8 +28,9 @@ use Rattle.sync_store.specs.Fitting.{FitsFiles, FitsSome}
 use Rattle.sync_store.specs.Moments.{IsBetween}
 use Rattle.sync_store.specs.Migrations.{IsSpent}
 use Rattle.sync_store.specs.Store.{StoreValue, written_in}
-use Rattle.store_commands.specs.Commit.{ComesAnew, MayMigrate, SettledAnew, SettlesAnew, needed_by}
-use Rattle.store_commands.proofs.Stood.{last_here, spent_here}
+use Rattle.store_commands.specs.Commit.{ComesAnew, IsInFormat, MayMigrate, SettledAnew, SettlesAnew}
+use Rattle.store_commands.specs.Commit.{needed_by}
+use Rattle.store_commands.proofs.Stood.{fits_synced, last_here, spent_here}
 use Rattle.sync_course.specs.Acts.{Act, AtFront, batches_in, commit_acts, events_of, sends_on}
 use Rattle.sync_course.specs.Closing.{Closing}
 use Rattle.sync_course.specs.Events.{Event, TellsEvents}
@@ -39,7 +40,7 @@ use Rattle.sync_course.specs.Turns.{Ended, Place, Terms, first_place}
 use Rattle.sync_course.proofs.ActLaws.{batches_in-append, batches_in_commits, commit_acts-append}
 use Rattle.sync_course.proofs.ActLaws.{commits_send, events_of-append, events_of_commits}
 use Rattle.sync_course.proofs.ActLaws.{sends_on-append}
-use Rattle.sync_course.proofs.PathLaws.{path_parts, path_then}
+use Rattle.sync_course.proofs.PathLaws.{path_then}
 use Rattle.sync_course.proofs.ToldLaws.{told_commits, told_then}
 use Rattle.sync_node.specs.declared.fault.NodeFault.{NodeFault}
 use Rattle.sync_node.specs.declared.fault.NodeFault.TheVariants as node_fault
@@ -57,7 +58,7 @@ use Rattle.sync_words.specs.declared.outcome.Outcome.{Outcome}
 use Rattle.sync_words.specs.declared.outcome.Outcome.TheVariants as outcome
 use Rattle.sync_run.specs.declared.dialling.Dialled.{Dialled}
 use Rattle.sync_run.specs.declared.run.Limits.{Limits}
-use Rattle.sync_run.specs.Courses.{RunWasSpent, terms_at, terms_of}
+use Rattle.sync_run.specs.Courses.{ReadsShort, RunWasSpent, terms_at, terms_of}
 use Rattle.sync_run.specs.Parts.{AnswersAt, EndsFrom, FillsAt, RanDialled, RanOver, RanSettled}
 use Rattle.sync_run.specs.Parts.{RunDid, RunsSessions, StopsFrom, StopsRun, before_links, closed_by}
 use Rattle.sync_run.specs.Plans.{sessions_from}
@@ -100,7 +101,8 @@ module _ (clients : Meaning) (limits : Limits) (links : List Dialled) (s : Store
   led : (j : Journal) → FitsWith clients s o.files j → (to : Owing Place)
       (w : Went clients (RunActs clients at_first) (paid at_links) to s n'.store o o')
       (r : Result Closing Outcome)
-      → AnswersAt clients limits at_first to (j ++ batches_in w.acts) (Unit {0}) ⊥ ⊥ r
+      → AnswersAt clients limits at_first to (j ++ batches_in w.acts) (ReadsShort o'.files)
+      (Unit {0}) ⊥ ⊥ r
       → RanOver clients limits at_first at_links j (Unit {0}) ⊥ o o' r
   led j fit to w r answer = record {
     did = record {
@@ -120,7 +122,17 @@ module _ (clients : Meaning) (limits : Limits) (links : List Dialled) (s : Store
     answer = answer;
   }
 
-  module _ (over : Bool) (runs : RunsSessions clients limits links n n' o o' over) where
+  -- the format of the store is that of the files
+  reads_short : written_in n'.store ≡ kind.Short → (k : Journal)
+      → FitsWith clients n'.store o'.files k → ReadsShort o'.files
+  reads_short short k fit two files =
+      let both : Some fit.0 ≡ Some two = sym fit.1 ∙ files in
+      let one : fit.0 ≡ two = cc in
+      subst (λ (t : Two File). IsInFormat kind.Short (read_files t)) one
+      (fits_synced clients n'.store k fit.0 fit.2 short).short
+
+  module _ (over : Bool) (short : written_in n'.store ≡ kind.Short)
+      (runs : RunsSessions clients limits links n n' o o' over) where
     abbrev end_at : (two : Two File) → o.files ≡ Some two
         → EndsFrom clients limits at_links (new_node s) n' o o' over
     end_at =
@@ -142,11 +154,14 @@ module _ (clients : Meaning) (limits : Limits) (links : List Dialled) (s : Store
                 ∙ links_close over limits.quiet n'.links last end.heard refl end.is_so;
           },
           tt,
+          reads_short short _ (end.went.did.fits j fit),
         )
 
     -- but how its links ended was not written down
     pub ran_unclosed : RanSettled clients limits links s o o' (Err outcome.Memory)
-    ran_unclosed j fit = led j fit _ (end_at fit.0 fit.1).went (Err outcome.Memory) tt
+    ran_unclosed j fit =
+        let went = (end_at fit.0 fit.1).went in
+        led j fit _ went (Err outcome.Memory) (λ begun. reads_short short _ (went.did.fits j fit))
 
   -- it was broken off
   abbrev stop_at : (x : NodeFault) → StopsRun clients limits links n n' o o' x
@@ -155,11 +170,13 @@ module _ (clients : Meaning) (limits : Limits) (links : List Dialled) (s : Store
   stop_at x stops =
       (subst (λ (m : NodeValue). StopsRun clients limits links m n' o o' x) made stops).stops
 
-  pub ran_out : StopsRun clients limits links n n' o o' node_fault.Memory
+  pub ran_out : written_in n'.store ≡ kind.Short
+      → StopsRun clients limits links n n' o o' node_fault.Memory
       → RanSettled clients limits links s o o' (Err outcome.Memory)
-  ran_out stops j fit =
-      let here = stop_at node_fault.Memory stops fit.0 fit.1 in
-      led j fit here.1.to here.1.went (Err outcome.Memory) tt
+  ran_out short stops j fit =
+      let here = (stop_at node_fault.Memory stops fit.0 fit.1).1 in
+      led j fit here.to here.went (Err outcome.Memory)
+      (λ begun. reads_short short _ (here.went.did.fits j fit))
 
   -- a call of the disk failed
   pub ran_broken : StopsRun clients limits links n n' o o' node_fault.DiskFault
@@ -190,14 +207,17 @@ module _ (clients : Meaning) (limits : Limits) (links : List Dialled) (s : Store
       let here = (stop_at node_fault.Full stops fit.0 fit.1).1 in
       let now = here.went.did.fits j fit in
       led j fit here.to here.went (Err outcome.Full)
-      (inl (record {
-        batch = here.batch;
-        next = here.next;
-        steps = here.steps;
-        over =
-            sum_over n'.store (j ++ batches_in here.went.acts) here.batch now.2.end_is
-            now.2.facts_are short limit here.over;
-      }))
+      (inl (
+        record {
+          batch = here.batch;
+          next = here.next;
+          steps = here.steps;
+          over =
+              sum_over n'.store (j ++ batches_in here.went.acts) here.batch now.2.end_is
+              now.2.facts_are short limit here.over;
+        },
+        reads_short short _ now,
+      ))
 
 -- nothing was done
 pub ran_none : (clients : Meaning) (limits : Limits) (links : List Dialled) (s : StoreValue)
@@ -206,25 +226,26 @@ ran_none clients limits links s o j fit =
     let from : Owing Place = paid (before_links links s.state.facts) in
     led clients limits links s (new_node s) (new_node s) o o refl j fit from
     (went_none clients (RunActs clients (terms_at limits s.state.facts.begun)) from s o)
-    (Err outcome.Memory) tt
+    (Err outcome.Memory) (λ begun. absurd (omega (arith, begun)))
 
 -- ---- answers
 
 -- what is so where a run ended, and what may be so where there was no room or a dial failed
 module _ (clients : Meaning) (limits : Limits) (terms : Terms) (to : Owing Place)
-    (Whole Spent Undialled Whole' Spent' Undialled' : Type 0) (now now' : Journal)
+    (Short Whole Spent Undialled Whole' Spent' Undialled' : Type 0) (now now' : Journal)
     (same : now ≡ now') (whole : Whole → Whole') (spent : Spent → Spent')
     (undialled : Undialled → Undialled') where
   pub answers_map : (r : Result Closing Outcome)
-      → AnswersAt clients limits terms to now Whole Spent Undialled r
-      → AnswersAt clients limits terms to now' Whole' Spent' Undialled' r
-  answers_map (Ok ends) answer = (answer.0, whole answer.1)
+      → AnswersAt clients limits terms to now Short Whole Spent Undialled r
+      → AnswersAt clients limits terms to now' Short Whole' Spent' Undialled' r
+  answers_map (Ok ends) answer = (answer.0, whole answer.1, answer.2)
   answers_map (Err outcome.Full) answer = elim answer [
-    | inl fills ↦ inl (subst (λ (l : Journal). FillsAt clients terms to l) same fills)
+    | inl fills ↦
+        inl (subst (λ (l : Journal). FillsAt clients terms to l) same fills.0, fills.1)
     | inr so ↦ inr (spent so)
   ]
   answers_map (Err (outcome.LinkFailed link)) answer = undialled answer
-  answers_map (Err outcome.Memory) answer = tt
+  answers_map (Err outcome.Memory) answer = answer
   answers_map (Err outcome.DiskFault) answer = tt
   answers_map (Err _) answer = absurd answer
 
@@ -299,6 +320,15 @@ settling_acts clients terms sessions f (b ∷ bs) settling = (
   settling_acts clients terms sessions (after_all f b) bs settling.1,
 )
 
+-- the first of some settling batches settle, and so do the others behind them
+settling_parts : (clients : Meaning) (f : Facts) (front others : Journal)
+    → AllSettling clients f (front ++ others)
+    → AllSettling clients f front × AllSettling clients (after_batches f front) others
+settling_parts clients f [] others all = (tt, all)
+settling_parts clients f (b ∷ front) others all =
+    let rest = settling_parts clients (after_all f b) front others all.1 in
+    ((all.0, rest.0), rest.1)
+
 module _ (clients : Meaning) (limits : Limits) (links : List Dialled) (s s1 : StoreValue)
     (o o1 : Outside) (more : Journal) (run : DiskRun o o1)
     (comes : ComesAnew clients s s1 o o1 more)
@@ -334,24 +364,34 @@ module _ (clients : Meaning) (limits : Limits) (links : List Dialled) (s s1 : St
     acts_parts : commit_acts more ≡ commit_acts front ++ commit_acts others
     acts_parts = ap commit_acts parts ∙ commit_acts-append front others
 
-    abbrev part_path : (q : Owing Place)
-        × Path (RunActs clients terms) (paid (place (facts j))) (commit_acts front) q
-        × Path (RunActs clients terms) q (commit_acts others) (paid (place done))
-    part_path =
-        path_parts (RunActs clients terms) (paid (place (facts j))) (paid (place done))
-        (commit_acts front) (commit_acts others)
-        (subst (λ (acts : List Act). Path (RunActs clients terms) (paid (place (facts j))) acts
-        (paid (place done))) acts_parts
-        (settling_acts clients terms (sessions_from (facts j).begun links) (facts j) more settling))
+    split : AllSettling clients (facts j) front
+        × AllSettling clients (after_batches (facts j) front) others
+    split =
+        settling_parts clients (facts j) front others
+        (subst (λ (bs : Journal). AllSettling clients (facts j) bs) parts settling)
+
+    -- where it stands then, and where it was to stand
+    abbrev settled_at : Owing Place
+    settled_at = paid (place (after_batches (facts j) front))
+
+    abbrev settled_beyond : Owing Place
+    settled_beyond = paid (place (after_batches (after_batches (facts j) front) others))
+
+    -- no session has begun
+    pub none_begun : settled_at.at.facts.begun ≡ (facts j).begun
+    none_begun = (all_settling_only clients (facts j) front split.0).begun
 
     abbrev did_settling : RunDid clients terms (place (facts j)) j o o1
     did_settling = record {
       acts = commit_acts front;
-      to = part_path.0;
-      path = part_path.1;
+      to = settled_at;
+      path =
+          settling_acts clients terms (sessions_from (facts j).begun links) (facts j) front split.0;
       next = others;
-      beyond = paid (place done);
-      goes_on = part_path.2;
+      beyond = settled_beyond;
+      goes_on =
+          settling_acts clients terms (sessions_from (facts j).begun links)
+          (after_batches (facts j) front) others split.1;
       sent = λ told link.
           ap (λ (l : Links). sent_on l link) run.same_links
           ∙ sym (append-nil (sent_on o.links link))
@@ -371,8 +411,8 @@ module _ (clients : Meaning) (limits : Limits) (links : List Dialled) (s s1 : St
 
     -- it was broken off while it was settled
     over_settling : (e : Outcome) (Whole Spent : Type 0)
-        → AnswersAt clients limits terms part_path.0 (j ++ batches_in (commit_acts front)) Whole
-        Spent ⊥ (Err e)
+        → AnswersAt clients limits terms settled_at (j ++ batches_in (commit_acts front))
+        (ReadsShort o1.files) Whole Spent ⊥ (Err e)
         → RanOver clients limits terms (place (facts j)) j Whole Spent o o1 (Err e)
     over_settling e Whole Spent answer =
         record { did = did_settling; told = told_settling; answer = answer }
@@ -408,7 +448,7 @@ module _ (clients : Meaning) (limits : Limits) (links : List Dialled) (s s1 : St
         (grown.0, grown.1, grown.2.stands_for) in
         let first : RunDid clients terms (place (facts j)) j o o1 =
         did_settling more [] all reads in
-        let at : first.to ≡ paid (place done) = sym first.goes_on in
+        let at : first.to ≡ paid (place done) = refl in
         let same : j ++ more ≡ j ++ batches_in first.acts =
         ap (λ (l : Journal). j ++ l) (sym (batches_in_commits more)) in
         let did = ran_here.did in
@@ -422,7 +462,8 @@ module _ (clients : Meaning) (limits : Limits) (links : List Dialled) (s s1 : St
               (told_then (events_of (commit_acts more)) (events_of did.acts) o o1 o'
               (told_settling more [] all reads) ran_here.told);
           answer =
-              answers_map clients limits terms did.to (Unit {0}) ⊥ ⊥ (MayMigrate o.files) Spent ⊥
+              answers_map clients limits terms did.to (ReadsShort o'.files) (Unit {0}) ⊥ ⊥
+              (MayMigrate o.files) Spent ⊥
               ((j ++ more) ++ batches_in did.acts) (j ++ batches_in (commit_acts more ++ did.acts))
               (now_is clients terms (place (facts j)) (place done) j (j ++ more) o o1 o' first at
               refl same told_on did)
@@ -455,14 +496,16 @@ module _ (clients : Meaning) (limits : Limits) (links : List Dialled) (s s1 : St
   }
 
   settling_answers : (of : Terms) (to : Owing Place) (j now : Journal) (e : Outcome)
-      → FitsWith clients s o.files j → SettledAnew clients s s1 (Err e)
-      → (e ≡ outcome.Full → o1 ≡ o)
-      → AnswersAt clients limits of to now (MayMigrate o.files) (RunWasSpent [] o o1) ⊥ (Err e)
-  settling_answers of to j now outcome.Full fit answer same =
+      → FitsWith clients s o.files j → to.at.facts.begun ≡ of.first
+      → SettledAnew clients s s1 (Err e) → (e ≡ outcome.Full → o1 ≡ o)
+      → AnswersAt clients limits of to now (ReadsShort o1.files) (MayMigrate o.files)
+      (RunWasSpent [] o o1) ⊥ (Err e)
+  settling_answers of to j now outcome.Full fit none answer same =
       inr (spent_by j fit answer.0 (same refl))
-  settling_answers of to j now outcome.Memory fit answer same = tt
-  settling_answers of to j now outcome.DiskFault fit answer same = tt
-  settling_answers of to j now _ fit answer same = absurd answer
+  settling_answers of to j now outcome.Memory fit none answer same = λ begun.
+      absurd (omega (arith, begun, none))
+  settling_answers of to j now outcome.DiskFault fit none answer same = tt
+  settling_answers of to j now _ fit none answer same = absurd answer
 
   pub settling_stopped : (r : Result Closing Outcome) (e : Outcome) → IsErrAnd r (λ x. x ≡ e)
       → FitsSome clients s o.files → SettlesAnew clients s s1 o o1 (Err e)
@@ -478,7 +521,9 @@ module _ (clients : Meaning) (limits : Limits) (links : List Dialled) (s s1 : St
       (RunWasSpent [] o o1) o o1 x) r e is
       (over_settling clients limits links s s1 o o1 settles.more run settles.comes j fit front.front
       front.others front.parts (front.reads j fit) e (MayMigrate o.files) (RunWasSpent [] o o1)
-      (settling_answers (terms_of limits j) _ j _ e fit settles.answer same))
+      (settling_answers (terms_of limits j) _ j _ e fit
+      (none_begun clients limits links s s1 o o1 settles.more run settles.comes j fit front.front
+      front.others front.parts (front.reads j fit)) settles.answer same))
 
   pub settled_ran : (u : Unit {0}) (o' : Outside) (r : Result Closing Outcome)
       → SettlesAnew clients s s1 o o1 (Ok u) → RanSettled clients limits links s1 o1 o' r

@@ -6,7 +6,8 @@ use Rattle.std.specs.Prelude.{slice_get}
 use Rattle.std.specs.List.{list_any}
 use Rattle.std.specs.Option.{option_map}
 use Rattle.outside.specs.declared.limits.TheConstants.{MAX_JOURNAL}
-use Rattle.outside.specs.Files.{Two, File, read_files}
+use Rattle.outside.specs.Disk.{RelatesTold}
+use Rattle.outside.specs.Files.{Two, File, read_files, ReadsSame}
 use Rattle.outside.specs.Links.{HeardOn, Links, ToldLink}
 use Rattle.outside.specs.Outside.{Outside}
 use Rattle.outside.specs.Runs.{IsFront, TellsAll}
@@ -17,6 +18,7 @@ use Rattle.sync_rules.specs.declared.states.Refused.{Refused}
 use Rattle.sync_rules.specs.declared.states.Refused.TheVariants as refused
 use Rattle.sync_rules.specs.Clients.{Meaning}
 use Rattle.sync_rules.specs.Facts.{Facts, Journal, facts}
+use Rattle.entry_codec.specs.declared.naming.Format.TheVariants as kind
 use Rattle.entry_codec.specs.Standing.{Standing, damaged, journal, no_store}
 use Rattle.sync_course.specs.Closing.{Closing, closing}
 use Rattle.sync_course.specs.Events.{Commit, Event, GrowsBy, RoseIf, batches_of, has_failure}
@@ -28,7 +30,7 @@ use Rattle.sync_course.specs.Turns.{Ended, Place, RunStep, Terms, first_place, i
 use Rattle.sync_node.specs.Courses.{ReadsAs}
 use Rattle.sync_course.specs.declared.ends.LinkEnd.TheVariants as end
 use Rattle.sync_node.specs.Output.{output, sent_on}
-use Rattle.store_commands.specs.Commit.{HasLastGeneration, MayMigrate, needed_by}
+use Rattle.store_commands.specs.Commit.{HasLastGeneration, IsInFormat, MayMigrate, needed_by}
 use Rattle.store_commands.specs.Show.{FilesReadSame}
 use Rattle.store_commands.specs.Stopping.{StoodFor}
 use Rattle.sync_words.specs.declared.link_words.LinkWords.{LinkWords}
@@ -56,6 +58,10 @@ pub record HearsRun (events : List Event) (old new : Links) : Type 0 where
   pub readings : GrowsBy (readings_of events) old.readings new.readings
   pub faults : (link : ℕ) → RoseIf (has_failure link events) (old.faults link) (new.faults link)
 
+-- where files are told, the file of the journal is in format 2
+abbrev pub ReadsShort : Option (Two File) → Type 0
+ReadsShort files = (two : Two File) → files ≡ Some two → IsInFormat kind.Short (read_files two)
+
 -- the links that were made have the first specs of the words, in order
 abbrev pub HaveSpecs : List LinkWords → Outside → Type 0
 HaveSpecs words new = (links : List ToldLink) → new.links.told ≡ Some links
@@ -76,9 +82,16 @@ pub record RanSoFar (clients : Meaning) (limits : Limits) (words : List LinkWord
   pub hears : HearsRun events old.links new.links
   pub reads : ReadsAs clients new.files (begin ++ batches_of events)
 
+-- Memory was wanting. Where a session had begun, the journal is in format 2.
+pub record RanShort (clients : Meaning) (limits : Limits) (words : List LinkWords)
+    (begin : Journal) (old new : Outside) : Type 0 where
+  pub run : RanSoFar clients limits words begin old new
+  pub short : (facts begin).begun < run.last.facts.begun → ReadsShort new.files
+
 -- The run came to its end, and closes so. Each link was made, and stands by what was heard on it.
 -- Where the run was over nothing is due on a link that is not closed, and what was heard was taken.
--- It began with a journal in format 2, or with one for which a generation was left.
+-- It began with a journal in format 2, or with one for which a generation was left, and leaves one
+-- in format 2.
 pub record RanToEnd (clients : Meaning) (limits : Limits) (words : List LinkWords)
     (begin : Journal) (old new : Outside) (ends : Closing) : Type 0 where
   pub run : RanSoFar clients limits words begin old new
@@ -90,10 +103,11 @@ pub record RanToEnd (clients : Meaning) (limits : Limits) (words : List LinkWord
   pub quiet : is_over limits.quiet run.last ≡ true
       → EndsQuiet clients (terms_of limits begin) run.events run.last
   pub next : MayMigrate old.files
+  pub short : ReadsShort new.files
 
 -- There was no room: from its last place the next step of the course commits a batch with which the
--- journal, the batch's frame and the room for settling pass the greatest length of a journal; and a
--- link that has not failed there has sent the whole.
+-- journal, the batch's frame and the room for settling pass the greatest length of a journal; a link
+-- that has not failed there has sent the whole; and the journal is in format 2.
 pub record WasOver (clients : Meaning) (limits : Limits) (words : List LinkWords)
     (begin : Journal) (old new : Outside) : Type 0 where
   pub run : RanSoFar clients limits words begin old new
@@ -104,6 +118,7 @@ pub record WasOver (clients : Meaning) (limits : Limits) (words : List LinkWords
   pub sent : TellsAll new → (i : ℕ) (l : course_links.Link) → slice_get run.last.links i ≡ Some l
       → l.stands ≢ end.Failed
       → sent_on new.links i ≡ output (begin ++ batches_of run.events) ((facts begin).begun + i)
+  pub short : ReadsShort new.files
 
 -- No generation was left for a journal in format 2: the files read as before. All links were made,
 -- and nothing was sent or heard on them.
@@ -148,7 +163,7 @@ OfJournal words standing fails P =
 
 -- What the command comes to, by what the files stood for; what is said of journals, answers and
 -- readings is said where the files were told. A run that ends before its first session leaves the
--- files as they read.
+-- files as they read: so does a dial that failed.
 abbrev pub RunComesTo : Meaning → Limits → List LinkWords → Standing → (old new : Outside)
     → Result Closing Outcome → Type 0
 RunComesTo clients limits words stood old new (Ok ends) =
@@ -159,11 +174,11 @@ RunComesTo clients limits words stood old new (Err (outcome.Damaged place)) =
 RunComesTo clients limits words stood old new (Err (outcome.Refused why)) =
     OfJournal words stood (Some why) (ReadsAs clients new.files)
 RunComesTo clients limits words stood old new (Err (outcome.LinkFailed link)) =
-    OfJournal words stood None (ReadsAs clients new.files)
+    OfJournal words stood None (λ begin. RelatesTold ReadsSame old.files new.files)
 RunComesTo clients limits words stood old new (Err outcome.Full) =
     OfJournal words stood None (λ begin. WasFull clients limits words begin old new)
 RunComesTo clients limits words stood old new (Err outcome.Memory) =
-    (begin : Journal) → stood ≡ journal begin → RanSoFar clients limits words begin old new
+    (begin : Journal) → stood ≡ journal begin → RanShort clients limits words begin old new
 RunComesTo clients limits words stood old new (Err outcome.DiskFault) =
     (begin : Journal) → stood ≡ journal begin → RanSoFar clients limits words begin old new
 RunComesTo clients limits words stood old new (Err _) = ⊥

@@ -31,7 +31,7 @@ use Rattle.sync_words.specs.declared.outcome.Outcome.{Outcome}
 use Rattle.sync_words.specs.declared.outcome.Outcome.TheVariants as outcome
 use Rattle.sync_run.specs.declared.dialling.Dialled.{Dialled}
 use Rattle.sync_run.specs.declared.run.Limits.{Limits}
-use Rattle.sync_run.specs.Courses.{HearsRun, RunWasSpent, terms_at, terms_of}
+use Rattle.sync_run.specs.Courses.{HearsRun, ReadsShort, RunWasSpent, terms_at, terms_of}
 use Rattle.sync_run.specs.Plans.{ArePlanned, sessions_from}
 
 -- links on which nothing was heard
@@ -137,25 +137,29 @@ pub record FillsAt (clients : Meaning) (terms : Terms) (to : Owing Place)
   pub steps : RunActs clients terms to (Does (Commit batch)) next
   pub over : MAX_JOURNAL < needed_by j batch
 
--- where a run stood at its answer, over this journal by then; what is so where it ended, what may
--- be so beside where there was no room, and what is so where a dial failed
+-- Where a run stood at its answer, over this journal by then: what is so where it ended, what may
+-- be so beside where there was no room, and what is so where a dial failed. Short is so where it
+-- ended, where there was no room for a batch, and, memory wanting, where a session had begun.
 abbrev pub AnswersAt : Meaning → Limits → Terms → Owing Place → Journal
-    → (Whole Spent Undialled : Type 0) → Result Closing Outcome → Type 0
-AnswersAt clients limits terms to j Whole Spent Undialled (Ok ends) = EndsAt limits to ends × Whole
-AnswersAt clients limits terms to j Whole Spent Undialled (Err outcome.Full) =
-    FillsAt clients terms to j ⊎ Spent
-AnswersAt clients limits terms to j Whole Spent Undialled (Err (outcome.LinkFailed link)) =
+    → (Short Whole Spent Undialled : Type 0) → Result Closing Outcome → Type 0
+AnswersAt clients limits terms to j Short Whole Spent Undialled (Ok ends) =
+    EndsAt limits to ends × Whole × Short
+AnswersAt clients limits terms to j Short Whole Spent Undialled (Err outcome.Full) =
+    (FillsAt clients terms to j × Short) ⊎ Spent
+AnswersAt clients limits terms to j Short Whole Spent Undialled (Err (outcome.LinkFailed link)) =
     Undialled
-AnswersAt clients limits terms to j Whole Spent Undialled (Err outcome.Memory) = Unit {0}
-AnswersAt clients limits terms to j Whole Spent Undialled (Err outcome.DiskFault) = Unit {0}
-AnswersAt clients limits terms to j Whole Spent Undialled (Err _) = ⊥
+AnswersAt clients limits terms to j Short Whole Spent Undialled (Err outcome.Memory) =
+    terms.first < to.at.facts.begun → Short
+AnswersAt clients limits terms to j Short Whole Spent Undialled (Err outcome.DiskFault) = Unit {0}
+AnswersAt clients limits terms to j Short Whole Spent Undialled (Err _) = ⊥
 
 pub record RanOver (clients : Meaning) (limits : Limits) (terms : Terms) (from : Place)
     (j : Journal)
     (Whole Spent : Type 0) (o o' : Outside) (result : Result Closing Outcome) : Type 0 where
   pub did : RunDid clients terms from j o o'
   pub told : TellsEvents (events_of did.acts) o o'
-  pub answer : AnswersAt clients limits terms did.to (j ++ batches_in did.acts) Whole Spent ⊥ result
+  pub answer : AnswersAt clients limits terms did.to (j ++ batches_in did.acts)
+      (ReadsShort o'.files) Whole Spent ⊥ result
 
 -- sessions ran over a settled store
 abbrev pub RanSettled : Meaning → Limits → List Dialled → StoreValue → Outside → Outside
@@ -189,4 +193,5 @@ pub record RanOnLinks (clients : Meaning) (limits : Limits) (words : List LinkWo
   pub grows : LinksGrow o.links o'.links
   pub hears : HearsRun (events_of did.acts) o.links o'.links
   pub answer : AnswersAt clients limits (terms_of limits j) did.to (j ++ batches_in did.acts)
-      (MayMigrate o.files) (RunWasSpent words o o') (ReadsAs clients o'.files j) result
+      (ReadsShort o'.files) (MayMigrate o.files) (RunWasSpent words o o') (o'.files ≡ o.files)
+      result

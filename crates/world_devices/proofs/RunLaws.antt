@@ -7,7 +7,6 @@ use Rattle.std.proofs.lemmas.List.{append_cancel_left}
 use Rattle.outside.specs.Files.{Two, File, IsImage}
 use Rattle.outside.specs.Links.{ToldLink, HeardOn}
 use Rattle.outside.specs.HostTold.{host_told}
-use Rattle.outside.specs.MemDisk.{disk_files, files_of}
 use Rattle.outside.specs.MemHost.{MemHostValue}
 use Rattle.outside.specs.Outside.{Outside, Moment}
 use Rattle.outside.specs.Runs.{TellsAll, answers_at, heard_bytes, sent_at}
@@ -20,7 +19,7 @@ use Rattle.file_standing.specs.Standing.{stands}
 use Rattle.sync_rules.specs.declared.entries.Entry.{Entry}
 use Rattle.sync_rules.specs.declared.entries.Entry.TheVariants as entry
 use Rattle.sync_rules.specs.declared.entries.Session.{Session}
-use Rattle.sync_rules.specs.Facts.{Facts, Journal, after_all, after_batches, facts}
+use Rattle.sync_rules.specs.Facts.{Facts, Journal, after_all, after_batches, facts, session_at}
 use Rattle.sync_rules.specs.Legal.{Allowed, AllSettling, IsSettlingBatch}
 use Rattle.sync_rules.specs.Lists.{In}
 use Rattle.sync_rules.specs.Output.{sent}
@@ -61,6 +60,7 @@ use Rattle.sync_node.specs.declared.fault.NodeFault.TheVariants as node_fault
 use Rattle.sync_node.specs.declared.link.Link.{Link}
 use Rattle.sync_node.proofs.DidLaws.{front_shift}
 use Rattle.sync_node.proofs.SentLaws.{from_at}
+use Rattle.sync_node.proofs.StartActs.{free_next}
 use Rattle.world_devices.specs.Keeping.{AreLinksQuiet, IsRunSoFar, KeepsOn, LeavesSome}
 use Rattle.world_devices.specs.Keeping.{StandsForSome, TellsSame, WentOn, node_place}
 use Rattle.world_devices.specs.Running.{WentHearing}
@@ -571,7 +571,10 @@ module _ (n n' : NodeValue) (h h' : MemHostValue) (links : ℕ) (run : IsRunning
   begin_done session number is_node w =
       let quiet = silent_past n h links run (length n.links) (omega arith) in
       let t =
-      w.went (files_of (disk_files h.disk)) refl (node_terms n) [] (heard_on from.links) false 0 0
+      w.went
+      (ap (session_at n.store.state.facts.sessions) number
+      ∙ free_next bundle_meaning n.store _ _ run.runs.fits.2)
+      (node_terms n) [] (heard_on from.links) false 0 0
       quiet (number ∙ (run.attached.attached run.unclosed).begun) in
       ends_at (heard_on from.links) t.acts is_node
       (free_path n from (begin_from session n from) refl (paid _) t.acts t.path)

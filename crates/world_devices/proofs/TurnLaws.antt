@@ -1,6 +1,6 @@
 -- What a call of the node of a device comes to: it was done, or it failed.
 use Rattle.std.proofs.Common.{◌≡◌, ◌+◌, ◌<◌, ◌∙◌, ℕ, Bool, false, List, length, arith, refl, sym}
-use Rattle.std.proofs.Common.{ap, subst, inl, inr, Option, Some, is_some, true, Result, Ok, Err}
+use Rattle.std.proofs.Common.{ap, subst, inl, inr, Option, None, Some, is_some, true, Result, Ok, Err}
 use Rattle.std.proofs.Common.{OnOk}
 use Rattle.std.specs.Prelude.{◌||◌, nat_le}
 use Rattle.std.specs.Prelude.{◌⊎◌, IsSomeAnd, MatchResult}
@@ -9,10 +9,10 @@ use Rattle.std.proofs.lemmas.Bool.Decides.{nat_tests}
 use Rattle.outside.specs.declared.limits.TheConstants.{LINKS}
 use denote.Enum.Bare.{sameb}
 use Rattle.outside.specs.HostTold.{host_told}
-use Rattle.outside.specs.MemDisk.{disk_files, files_of}
 use Rattle.outside.specs.MemHost.{MemHostValue}
 use Rattle.client_basic.specs.Bodies.{bundle_meaning}
 use Rattle.sync_rules.specs.declared.entries.Session.{Session}
+use Rattle.sync_rules.specs.Facts.{session_at}
 use Rattle.sync_node.specs.Courses.{BreaksBeginning, BreaksTurn, MakesTurn, is_still}
 use Rattle.sync_node.specs.OnRuns.{BeginStopped, RoundStopped}
 use Rattle.sync_node.proofs.NodeRuns.{beginning_breaks, run_went, turn_breaks, turn_made}
@@ -174,16 +174,17 @@ has_turned still quiet n n' h h' first same w = record {
 pub has_begun_on : (plan : Plan) (its_nonce : Option (List ℕ)) (session : ℕ) (n n' : NodeValue)
     (h h' : MemHostValue) → session ≡ n.store.state.facts.begun
     → n.store.state.facts.begun ≡ n.first + length n.links → n'.first ≡ n.first
+    → session_at n.store.state.facts.sessions n.store.state.facts.begun ≡ None
     → NodeBegan (next_session plan its_nonce n) n n' h h'
     → HasBegunOnLink plan its_nonce session h h' n n'
-has_begun_on plan its_nonce session n n' h h' number next first w = record {
+has_begun_on plan its_nonce session n n' h h' number next first free w = record {
   number = number;
   on_next = number ∙ next;
   same_first = first;
   has_read = w.has_read;
   runs = λ terms left heard moved still made own quiet.
       run_went bundle_meaning terms _ _ n.store n'.store (host_told h) (host_told h')
-      (w.went (files_of (disk_files h.disk)) refl terms left heard moved still made quiet (next
+      (w.went free terms left heard moved still made quiet (next
       ∙ ap (λ (k : ℕ). k + length n.links) (sym own)));
   facts_are = w.facts;
 }

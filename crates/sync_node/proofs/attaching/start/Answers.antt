@@ -74,7 +74,7 @@ returns-clause-went g c =
     let found =
     sym c.in-Some.is ∙ session_told _ _ _ _ c.state.ensures c.session.ensures.value in
     start_went _ c.args.session _ _ c.in_ok-batch.batch c.in_ok-batch.ensures c.requires.allowed _ _ _ c.in-Some.begun c.args.reader _ _ _ _
-    c.requires.ready c.in_ok-commit.ensures.went c.in_ok-commit.ensures.numbers.roomy
+    c.in_ok-commit.ensures.went c.in_ok-commit.ensures.numbers.roomy
     (first_bytes c.args.session _ _ (c.as_slice.ensures.value ∙ c.in_ok-versions.ensures) (c.as_slice-2.ensures.value ∙ c.in_ok-priority.ensures))
     found c.requires.fresh
     (subst (λ (r : ReaderState). AwaitsBytes r) c.requires.fresh c.requires.waits)

@@ -62,6 +62,8 @@ returns-in_err-close-in-Ok g c =
           passed (RanSettled (g.C.Clients.meaning c.args.clients.now) c.args.limits c.args.links.now
           c.args.store old new) r outcome.Memory is
           (ran_unclosed _ c.args.limits c.args.links.now _ _ _ _ _ c.in_ok-node.ensures c.in-Ok.over
+          (ap format_meant (c.run_node.ensures.stands.goes.same_format
+          ∙ ap (λ (n : NodeValue). n.store.format) c.in_ok-node.ensures) ∙ c.requires.short)
           c.in-Ok.ensures.went);
     }
 
@@ -78,6 +80,8 @@ returns-in-Ok g c = record {
   );
   ran =
       ran_whole _ c.args.limits c.args.links.now _ _ _ _ _ c.in_ok-node.ensures c.in-Ok.over
+      (ap format_meant (c.run_node.ensures.stands.goes.same_format
+      ∙ ap (λ (n : NodeValue). n.store.format) c.in_ok-node.ensures) ∙ c.requires.short)
       c.in-Ok.ensures.went c.in_ok-close-in-Ok.field-0 c.in_ok-close-in-Ok.ensures;
 }
 
@@ -91,6 +95,8 @@ returns-in-Err-Memory g c = record {
   caused = (tt, tt);
   ran =
       ran_out _ c.args.limits c.args.links.now _ _ _ _ _ c.in_ok-node.ensures
+      (ap format_meant (c.run_node.ensures.stands.goes.same_format
+      ∙ ap (λ (n : NodeValue). n.store.format) c.in_ok-node.ensures) ∙ c.requires.short)
       (rw c.in-Err-Memory.field-0-is at c.in-Err-Memory.ensures.stopped);
 }
 

@@ -3,7 +3,7 @@ use Rattle.outside.specs.Links.{Links}
 use Rattle.sync_node.specs.Going.{specs_of}
 use Rattle.sync_words.specs.declared.outcome.Outcome.TheVariants as outcome
 use Rattle.sync_run.proofs.CauseLaws.{caused_behind}
-use Rattle.sync_run.proofs.LeavingLaws.{broken_early, ended_early, leaves_as, load_caused}
+use Rattle.sync_run.proofs.LeavingLaws.{starved_early, ended_early, leaves_as, load_caused}
 use Rattle.sync_run.proofs.LeavingLaws.{load_comes, loaded_unfull, refused_caused, refused_comes}
 use Rattle.sync_run.proofs.RanLaws.{headline_ran, ran_told}
 use Rattle.sync_run.proofs.RestLaws.{load_rests, rests_ready}
@@ -80,7 +80,7 @@ returns-in_err-dialled g c =
     outcome.Memory c.from_residual-in_err-dialled.ensures.1 (λ same. cc)
     (rests_ready _ _ _ c.in_ok-store.ensures.opened.ready)
     tt
-    (λ two told. broken_early _ c.args.limits words two old new c.requires.unused told
+    (λ two told. starved_early _ c.args.limits words two old new c.requires.unused told
     load.run.same_links load.reads) in
     record {
       headline = e.headline;

@@ -4,6 +4,7 @@ use Rattle.std.proofs.lemmas.List.{drop_all, length-append}
 use Rattle.sync_rules.specs.Facts.{Facts}
 use Rattle.sync_node.specs.declared.link.Link.{Link}
 use Rattle.sync_node.specs.Node.{IsNode, NodeValue}
+use Rattle.sync_node.proofs.StartActs.{free_next}
 use Rattle.sync_run.specs.declared.dialling.Dialled.{Dialled}
 use Rattle.sync_run.specs.Needs.{MayBeginOn}
 use Rattle.sync_run.specs.Parts.{SessionsBegin}
@@ -44,7 +45,9 @@ links-preserved g c =
       went =
           attached_more _ _ _ c.link-item.result c.args.node.now _ _ _ _ _
           (begun_at _ c.args.node.now l.keeps.node l.still_open l.keeps.same_first)
-          c.links-test.true c.link-item.is l.went e.goes.goes.same_files begins;
+          c.links-test.true c.link-item.is l.went
+          (λ two told. free_next _ _ _ _ ((l.may l.still_open).ready.fits two told).1)
+          e.goes.goes.same_files begins;
       keeps = keeps_then _ _ _ _ _ _ l.keeps e.goes;
       still_open = e.answers.opened l.still_open;
       numbered = omega (arith, more, l.numbered);

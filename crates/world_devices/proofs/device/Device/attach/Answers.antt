@@ -1,6 +1,7 @@
 use Rattle.std.proofs.Common.{◌+◌, [], ap, inl, inr, refl, sym, ◌∙◌, subst, arith, Some, None}
 use Rattle.outside.specs.MemHost.{MemHostValue}
 use Rattle.sync_store.specs.Store.{IsStore, StoreValue}
+use Rattle.sync_node.proofs.StartActs.{free_next}
 use Rattle.world_devices.specs.Devices.{DeviceValue}
 use Rattle.world_devices.specs.Doing.{DeviceBeginsSession, FullAtBeginning, HasBegunOnLink, OfNodes}
 use Rattle.world_devices.specs.Doing.{next_session}
@@ -68,7 +69,8 @@ returns-in-Ok c =
     c.self.inside.host h') c.self.inside.node (Some n') =
     of_nodes _ _ _ _ c.in-Some-node.is
     (has_begun_on plan c.args.nonce _ _ n' _ h' number
-    (did.run.attached.attached did.run.unclosed).begun c.attach.ensures.goes.same_first went) in
+    (did.run.attached.attached did.run.unclosed).begun c.attach.ensures.goes.same_first
+    (free_next _ _ _ _ did.run.runs.fits.2) went) in
     let came = comes_done (λ x y r. DeviceBeginsSession plan c.args.nonce r x y)
     (λ x y r. LinksByAttach plan.contact r x y) c.cite_laws.ensures c.self.view_is _ n' h' (c.self.inside.links + 1) did
     c.finish.result (Some c.sessions-session.result) c.finish.ensures
