@@ -1,14 +1,12 @@
 -- What an audit answers.
-use Rattle.std.proofs.Common.{◌≡◌, ℕ, zero, suc, Bool, true, false, List, length, length-append, Option, Some, None, Result, Ok, Err, OnErr, IsErrOf, refl, sym, ◌∙◌, ap, subst, is_none}
-use Rattle.std.specs.List.{AllByRecursion}
+use Rattle.std.proofs.Common.{◌≡◌, ℕ, zero, suc, Bool, true, false, List, Option, Some, None, Result, Ok, Err, refl, sym, ◌∙◌, ap, subst, is_none}
 use Rattle.std.specs.Option.{option_map, IfSome}
 use Rattle.std.specs.Result.{IsErrAnd}
-use Rattle.outside.specs.Faults.{CountRose}
 use Rattle.outside.specs.Files.{File, Two, file_of, read_files}
 use Rattle.outside.specs.Frames.{format_in, journal_file}
 use Rattle.entry_codec.specs.declared.naming.Format.{Format}
 use Rattle.entry_codec.specs.Naming.{format_of}
-use Rattle.entry_codec.specs.Standing.{Standing, damaged, no_store}
+use Rattle.entry_codec.specs.Standing.{Standing, damaged}
 use Rattle.file_standing.specs.Standing.{stands}
 use Rattle.entry_codec.proofs.FrontLaws.{front_format, front_none, front_start}
 use Rattle.std.proofs.lemmas.Bool.{false≢true}
@@ -18,21 +16,19 @@ use Rattle.sync_rules.specs.Clients.{Meaning}
 use Rattle.sync_rules.specs.Facts.{Facts, facts}
 use Rattle.sync_rules.specs.Knowing.{CountsEnds}
 use Rattle.sync_rules.specs.Legal.{Legal}
-use Rattle.sync_rules.specs.Rounds.{Graph, graph_of}
+use Rattle.sync_rules.specs.Rounds.{graph_of}
 use Rattle.sync_rules.specs.Steps.{IsSettled, next}
 use Rattle.journal_audit.specs.declared.fault.AuditFault.{AuditFault}
 use Rattle.journal_audit.specs.declared.fault.AuditFault.TheVariants as fault
 use Rattle.journal_audit.specs.declared.facts.PlainFacts.{PlainFacts}
-use Rattle.journal_audit.specs.declared.files.Header.{Header}
 use Rattle.journal_audit.specs.declared.files.Taken.{Taken}
 use Rattle.journal_audit.specs.declared.reading.Played.{Played}
 use Rattle.journal_audit.specs.declared.report.Report.{Report}
 use Rattle.journal_audit.specs.Answers.{IsAuditOf, IsAudited, IsFileTaken, ReportsFrames, SaysOfStanding}
-use Rattle.journal_audit.specs.Files.{IsFileFound, IsHeaderOf}
-use Rattle.journal_audit.specs.Lines.{held_in, held_of}
+use Rattle.journal_audit.specs.Files.{IsFileFound}
+use Rattle.journal_audit.specs.Lines.{held_in}
 use Rattle.journal_audit.specs.Plain.{KnowsMeanings, facts_of}
 use Rattle.journal_audit.specs.Reading.{IsDamage, IsJournalRead, whole_of}
-use Rattle.journal_audit.specs.Reports.{EndsAreCounted, IsReport}
 use Rattle.journal_audit.specs.Rounding.{IsGraphOfLines, round_count}
 use Rattle.journal_audit.specs.Telling.{TellsReport}
 

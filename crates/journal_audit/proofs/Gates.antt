@@ -1,13 +1,13 @@
 -- A frame is read, and the reader goes on.
-use Rattle.std.proofs.Common.{◌≡◌, ℕ, ◌+◌, ◌-◌, ◌*◌, ◌<◌, ◌≤◌, min, Bool, true, false, cond, nat_le, if◌then◌else◌, List, [], ◌∷◌, ◌++◌, length, length-append, length-take, length-drop, take, drop, Option, Some, None, refl, sym, ◌∙◌, ap, subst, arith}
+use Rattle.std.proofs.Common.{◌≡◌, ℕ, ◌+◌, ◌*◌, ◌<◌, ◌≤◌, Bool, true, false, nat_le, if◌then◌else◌, List, [], ◌∷◌, ◌++◌, length, length-append, length-take, length-drop, take, drop, Option, Some, None, refl, sym, ◌∙◌, ap, arith}
 use Rattle.std.proofs.lemmas.Bool.{le-leb, leb-true}
 use Rattle.std.proofs.lemmas.List.{append-nil}
 use Rattle.outside.specs.declared.limits.TheConstants.{MAX_JOURNAL}
 use Rattle.outside.specs.Frames.{Frame, broken, closed, frame_at, framed}
 use Rattle.entry_codec.specs.declared.naming.Format.{Format}
 use Rattle.entry_codec.specs.Payloads.{batch_in, names_of}
-use Rattle.entry_codec.specs.Standing.{Standing, damaged, journal, room_of, step_bytes}
-use Rattle.entry_codec.specs.ReadingFiles.{ended, read_on, rest_from, taken_on}
+use Rattle.entry_codec.specs.Standing.{damaged, journal, room_of, step_bytes}
+use Rattle.entry_codec.specs.ReadingFiles.{read_on, rest_from, taken_on}
 use Rattle.entry_codec.proofs.FrontLaws.{framed_fits, rest_once}
 use Rattle.sync_rules.specs.declared.entries.Entry.{Entry}
 use Rattle.sync_rules.specs.Allows.{AllowsIsAllowed, allows}
@@ -19,7 +19,6 @@ use Rattle.sync_rules.proofs.Outputs.{entries_of-append}
 use Rattle.sync_rules.proofs.WorkLaws.{facts-push}
 use Rattle.journal_audit.specs.declared.facts.PlainFacts.{PlainFacts}
 use Rattle.journal_audit.specs.declared.reading.Played.{Played}
-use Rattle.journal_audit.specs.Changes.{BecomesKnown}
 use Rattle.journal_audit.specs.Frames.{IsOpenAt}
 use Rattle.journal_audit.specs.Lines.{left_in}
 use Rattle.journal_audit.specs.Plain.{IsPlainSound, KnowsMeanings, facts_of}

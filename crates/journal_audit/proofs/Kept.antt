@@ -8,8 +8,8 @@ use Rattle.sync_rules.specs.Lists.{has_repeat, is_among, same_id}
 use Rattle.sync_rules.proofs.ConsistencyLaws.{has_repeat-push}
 use Rattle.sync_rules.proofs.Elements.{same_id-is, same_id_itself}
 use Rattle.journal_audit.specs.declared.messages.Line.{Line}
-use Rattle.journal_audit.specs.Lines.{AreLines, Kept, delivered_in, delivered_line, held_in, held_of, id_at, line_changed}
-use Rattle.journal_audit.proofs.Lines.{OldOrNew, WasLine, among-held, among_get, among_push, delivered_push, delivered_same, get_held, id_at-get, map_push, old_or_new, same_held, same_ids, same_length, same_place, was_line}
+use Rattle.journal_audit.specs.Lines.{AreLines, Kept, delivered_line, held_in, held_of, id_at, line_changed}
+use Rattle.journal_audit.proofs.Lines.{WasLine, among-held, among_get, among_push, delivered_push, delivered_same, get_held, id_at-get, map_push, old_or_new, same_held, same_ids, same_length, same_place, was_line}
 use Rattle.journal_audit.proofs.Places.{held_push}
 
 -- by their parts

@@ -12,6 +12,7 @@ mod Parts
 mod Passed
 mod Places
 mod SessionLists
+mod Sleeps
 mod Plays
 mod Sound
 mod SoundHeld

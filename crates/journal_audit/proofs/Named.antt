@@ -1,5 +1,5 @@
 -- The ids of held messages as names.
-use Rattle.std.proofs.Common.{◌≡◌, ℕ, zero, suc, ◌+◌, ◌^◌, ◌<◌, ◌≤◌, true, false, cond, ◌||◌, List, [], ◌∷◌, length, map, Option, Some, None, refl, sym, ◌∙◌, ap, subst, arith, is_some}
+use Rattle.std.proofs.Common.{◌≡◌, ℕ, zero, suc, ◌^◌, ◌<◌, true, false, cond, ◌||◌, List, [], ◌∷◌, length, Option, Some, None, refl, sym, ◌∙◌, ap, subst, arith, is_some}
 use Rattle.std.specs.List.{slice_get}
 use Rattle.std.specs.Option.{option_map}
 use Rattle.std.proofs.lemmas.Bool.{or_right}
@@ -7,8 +7,8 @@ use Rattle.sync_ids.specs.Ids.{message_id_of}
 use Rattle.sync_ids.specs.Values.{AreIds, MessageValue}
 use Rattle.sync_rules.specs.Clients.{Meaning}
 use Rattle.sync_rules.specs.Consistency.{HasHeld, ids_of_held}
-use Rattle.sync_rules.specs.Facts.{Facts, Held, Id, facts, held_at}
-use Rattle.sync_rules.specs.Lists.{has_repeat, is_among, same_id}
+use Rattle.sync_rules.specs.Facts.{Facts, Held, Id, held_at}
+use Rattle.sync_rules.specs.Lists.{is_among, same_id}
 use Rattle.sync_rules.specs.Views.{place_of}
 use Rattle.sync_rules.proofs.ConsistencyLaws.{legal_consistent}
 use Rattle.sync_rules.proofs.Elements.{same_id_itself}

@@ -1,5 +1,5 @@
 -- What a change of a part of plain facts makes of the facts, and of what is known of the clients.
-use Rattle.std.proofs.Common.{◌≡◌, ℕ, true, false, List, [], ◌∷◌, ◌++◌, map, Option, Some, None}
+use Rattle.std.proofs.Common.{◌≡◌, ℕ, false, List, [], ◌∷◌, ◌++◌, map, Option, Some, None}
 use Rattle.std.proofs.Common.{refl, sym, ◌∙◌, ap, subst, is_some}
 use Rattle.std.specs.FinSet as fin_set
 use Rattle.std.specs.List.{AllByRecursion, slice_get}

@@ -1,5 +1,5 @@
 -- Messages that are passed change nothing but cursors.
-use Rattle.std.proofs.Common.{◌≡◌, ◌≢◌, ℕ, zero, suc, ◌+◌, ◌<◌, ◌≤◌, Bool, true, false, cond, not, ◌&&◌, ◌||◌, nat_eq, nat_lt, List, length, replicate, slice_index_or, Option, Some, refl, sym, ◌∙◌, ap, subst, arith, eq-eqb, eqb-true}
+use Rattle.std.proofs.Common.{◌≡◌, ◌≢◌, ℕ, zero, suc, ◌+◌, ◌<◌, ◌≤◌, Bool, true, false, cond, not, ◌&&◌, ◌||◌, nat_eq, nat_lt, List, length, replicate, slice_index_or, Some, refl, sym, ◌∙◌, ap, subst, arith, eq-eqb, eqb-true}
 use Rattle.std.specs.List.{slice_get}
 use Rattle.std.proofs.lemmas.Bool.{false≢true, le-ltb, ltb-false}
 use Rattle.sync_rules.specs.declared.entries.Entry.{Entry}
@@ -10,7 +10,7 @@ use Rattle.journal_audit.specs.declared.facts.PlainFacts.{PlainFacts}
 use Rattle.journal_audit.specs.Changes.{BecomesFacts, BecomesKnown}
 use Rattle.journal_audit.specs.Lines.{held_in}
 use Rattle.journal_audit.specs.Numbers.{CursorLists, from_of, until_of}
-use Rattle.journal_audit.specs.Plain.{IsPlainSound, KnowsMeanings, PassesUntil, facts_of, is_awake}
+use Rattle.journal_audit.specs.Plain.{IsPlainSound, PassesUntil, facts_of, is_awake}
 use Rattle.journal_audit.specs.Playing.{IsOfLegal, PlaysEntries}
 
 -- ---- cursors

@@ -14,7 +14,7 @@ use Rattle.sync_rules.specs.declared.entries.Out.TheVariants as out
 use Rattle.sync_rules.specs.Allows.{AllowsIsAllowed, allows, is_some_of, same_entry, settles, suits_rows}
 use Rattle.sync_rules.specs.Clients.{Meaning}
 use Rattle.sync_rules.specs.Consistency.{IsConsistent}
-use Rattle.sync_rules.specs.Facts.{Facts, Held, Id, after, after_all, contact_in, facts, is_held, nothing, session_at}
+use Rattle.sync_rules.specs.Facts.{Facts, Held, Id, after, after_all, contact_in, is_held, nothing, session_at}
 use Rattle.sync_rules.specs.Lists.{is_among, same_id}
 use Rattle.sync_rules.specs.Meeting.{AllMeet, MeetsNoStep}
 use Rattle.sync_rules.specs.Naming.{NamesDistinct}

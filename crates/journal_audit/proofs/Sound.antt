@@ -1,7 +1,7 @@
 -- What holds of plain facts stays so, entry by entry.
-use Rattle.std.proofs.Common.{◌≡◌, ◌≢◌, ℕ, ◌+◌, ◌<◌, ◌≤◌, Bool, true, false, not, cond, ◌&&◌, ◌||◌}
+use Rattle.std.proofs.Common.{◌≡◌, ℕ, ◌+◌, ◌<◌, ◌≤◌, Bool, true, false, not, cond, ◌&&◌, ◌||◌}
 use Rattle.std.proofs.Common.{Option, unwrap_or}
-use Rattle.std.proofs.Common.{List, [], ◌∷◌, ◌++◌, length, Some, refl, sym, ◌∙◌, ap, subst, arith}
+use Rattle.std.proofs.Common.{List, [], ◌∷◌, ◌++◌, length, Some, None, refl, sym, ◌∙◌, ap, subst, arith}
 use Rattle.std.proofs.Common.{is_some, nat_eq, nat_lt, eqb-true}
 use Rattle.std.specs.FinMap as fin_map
 use Rattle.std.specs.List.{slice_get}
@@ -18,7 +18,8 @@ use Rattle.sync_rules.proofs.Sound.{group_at-push}
 use Rattle.journal_audit.specs.declared.messages.Line.{Line}
 use Rattle.journal_audit.specs.Lines.{Kept, held_in}
 use Rattle.journal_audit.specs.Numbers.{CursorLists, from_of, until_of}
-use Rattle.journal_audit.specs.Plain.{AreGrouped, AreSound, OwesAcks, WaitsOrHasEnded, is_awake}
+use Rattle.journal_audit.specs.Plain.{AreGrouped, AreSound, OwesAcks, is_awake}
+use Rattle.journal_audit.specs.Sleeping.{SleeperLists}
 use Rattle.journal_audit.proofs.Kept.{lines_none}
 
 -- ---- tests
@@ -32,10 +33,9 @@ not_true false h = refl
 
 -- ---- nothing
 
-pub sound_none : (groups : List Known) (levels : LevelMap) (kept : Kept) (rows : Rows) (waiting : List ℕ) (owed : List (List ℕ)) (cursors : CursorLists)
-    → levels ≡ fin_map.empty → kept.lines ≡ [] → kept.delivered ≡ [] → rows ≡ fin_map.empty → ((contact : ℕ) → from_of cursors contact ≡ 0) → AreSound 0 groups levels kept rows waiting owed cursors
-sound_none groups levels kept rows waiting owed cursors no_levels no_lines no_delivered no_rows no_cursor =
-    let P : List Line → Type 0 = λ ls. WaitsOrHasEnded ls waiting in
+pub sound_none : (groups : List Known) (levels : LevelMap) (kept : Kept) (rows : Rows) (waiting : List ℕ) (sleepers : SleeperLists) (owed : List (List ℕ)) (cursors : CursorLists)
+    → levels ≡ fin_map.empty → kept.lines ≡ [] → kept.delivered ≡ [] → rows ≡ fin_map.empty → ((contact : ℕ) → from_of cursors contact ≡ 0) → AreSound 0 groups levels kept rows waiting sleepers owed cursors
+sound_none groups levels kept rows waiting sleepers owed cursors no_levels no_lines no_delivered no_rows no_cursor =
     let R : List Line → Type 0 = λ ls. AreGrouped groups (held_in ls) in
     let O : List Line → Type 0 = λ ls. OwesAcks (held_in ls) rows owed in
     record {
@@ -48,7 +48,7 @@ sound_none groups levels kept rows waiting owed cursors no_levels no_lines no_de
       grouped = subst R (sym no_lines) refl;
       rows_fit = λ contact id none. ap (λ (r : Rows). row_at r contact id) no_rows
           ∙ ap (λ (o : Option Row). unwrap_or o no_row) (fin_map.get-empty pair_cmp (contact, id));
-      waits = subst P (sym no_lines) (λ n l at. cc);
+      waits = λ n l at. let wrong : None ≡ Some l = ap (λ (ls : List Line). slice_get ls n) (sym no_lines) ∙ at in cc;
       owes = subst O (sym no_lines) (λ contact n h below at. cc);
       sleeps = λ contact n h at below. let none = no_cursor contact in absurd (omega (arith, none, below));
       within = λ contact. let none = no_cursor contact in omega (arith, none);
@@ -59,11 +59,11 @@ sound_none groups levels kept rows waiting owed cursors no_levels no_lines no_de
         ∙ ap (λ (o : Option Level). unwrap_or o level.Invisible)
         (fin_map.get-empty pair_cmp (contact, group))
 
-module _ (contacts : ℕ) (groups : List Known) (levels : LevelMap) (kept : Kept) (rows : Rows) (waiting : List ℕ) (owed : List (List ℕ)) (cursors : CursorLists)
-    (s : AreSound contacts groups levels kept rows waiting owed cursors) where
+module _ (contacts : ℕ) (groups : List Known) (levels : LevelMap) (kept : Kept) (rows : Rows) (waiting : List ℕ) (sleepers : SleeperLists) (owed : List (List ℕ)) (cursors : CursorLists)
+    (s : AreSound contacts groups levels kept rows waiting sleepers owed cursors) where
   -- ---- contacts, groups and levels
 
-  pub sound_contact : contacts < 256 → AreSound (contacts + 1) groups levels kept rows waiting owed cursors
+  pub sound_contact : contacts < 256 → AreSound (contacts + 1) groups levels kept rows waiting sleepers owed cursors
   sound_contact below = record {
     lines = s.lines;
     levels_fit = record {
@@ -85,9 +85,9 @@ module _ (contacts : ℕ) (groups : List Known) (levels : LevelMap) (kept : Kept
       let parts = and_parts (is_some (group_at groups h.message.group)) _ all in
       and_from (is_some (group_at (groups ++ x ∷ []) h.message.group)) _ (ap is_some (group_at-push groups x h.message.group parts.0) ∙ parts.0) (grouped_more x hs parts.1)
 
-  pub sound_group : (x : Known) (groups' : List Known) → groups' ≡ groups ++ x ∷ [] → AreSound contacts groups' levels kept rows waiting owed cursors
+  pub sound_group : (x : Known) (groups' : List Known) → groups' ≡ groups ++ x ∷ [] → AreSound contacts groups' levels kept rows waiting sleepers owed cursors
   sound_group x groups' more =
-      let At : List Known → Type 0 = λ gs. AreSound contacts gs levels kept rows waiting owed cursors in
+      let At : List Known → Type 0 = λ gs. AreSound contacts gs levels kept rows waiting sleepers owed cursors in
       subst At (sym more)
       (record {
         lines = s.lines;
@@ -106,7 +106,7 @@ module _ (contacts : ℕ) (groups : List Known) (levels : LevelMap) (kept : Kept
 
   pub sound_level : (c : ℕ) (g : Id) (l : Level) (levels' : LevelMap) (cursors' : CursorLists) → c < contacts → is_some (group_at groups g) ≡ true → levels' ≡ put_level levels (c, g) l
       → ((x : ℕ) → from_of cursors' x ≡ cond (nat_eq x c) 0 (from_of cursors x)) → ((x : ℕ) → until_of cursors' x ≡ cond (nat_eq x c) 0 (until_of cursors x))
-      → AreSound contacts groups levels' kept rows waiting owed cursors'
+      → AreSound contacts groups levels' kept rows waiting sleepers owed cursors'
   sound_level c g l levels' cursors' below known put from_is until_is = record {
     lines = s.lines;
     levels_fit = record { few = s.levels_fit.few; shown = λ x group. shown x group _ refl; hidden = λ x group beyond. hidden x group beyond };

@@ -1,19 +1,21 @@
 -- What holds of plain facts stays so when a message is held, and when something becomes of one.
-use Rattle.std.proofs.Common.{◌≡◌, ℕ, ◌+◌, ◌<◌, ◌≤◌, ◌⊎◌, Bool, true, false, not, cond, ◌&&◌, ◌||◌, List, [], ◌∷◌, ◌++◌, length, Option, Some, None, refl, sym, ◌∙◌, ap, subst, inl, inr, arith, is_some, nat_eq, nat_lt, eq-eqb, eqb-true}
+use Rattle.std.proofs.Common.{◌≡◌, ℕ, ◌+◌, ◌⊎◌, Bool, true, false, cond, ◌&&◌, ◌||◌, List, [], ◌∷◌, ◌++◌, length, Option, Some, None, refl, sym, ◌∙◌, ap, subst, inl, inr, arith, is_some, nat_eq, eq-eqb, eqb-true}
 use Rattle.std.specs.List.{slice_get}
-use Rattle.std.proofs.lemmas.Bool.{and_from, and_parts, false≢true, ltb-false, or_right}
+use Rattle.std.proofs.lemmas.Bool.{and_from, and_parts, false≢true, or_right}
 use Rattle.std.proofs.lemmas.List.{length-append, length-map}
 use Rattle.std.proofs.lemmas.Option.{slice_get_within}
-use Rattle.sync_rules.specs.declared.entries.Level.{Level}
-use Rattle.sync_rules.specs.Facts.{Held, Id, Known, LevelMap, Row, Rows, group_at, held_at, is_held, is_level_shared, level_at, row_at}
+use Rattle.sync_rules.specs.Facts.{Facts, Held, Id, Known, LevelMap, Row, Rows, group_at, held_at, is_held, row_at}
+use Rattle.sync_rules.specs.Steps.{step_open}
 use Rattle.sync_rules.proofs.Sound.{held_at-push}
 use Rattle.journal_audit.specs.declared.messages.Line.{Line}
 use Rattle.journal_audit.specs.Lines.{AreLines, Kept, delivered_line, held_in, held_of, invalid_line, judged_line, line_changed}
-use Rattle.journal_audit.specs.Numbers.{CursorLists, from_of, has, has_for}
-use Rattle.journal_audit.specs.Plain.{AreGrouped, AreSound, HasPlainRows, OwesAcks, SleepsBelowCursor, WaitsOrHasEnded}
+use Rattle.journal_audit.specs.Numbers.{CursorLists, has}
+use Rattle.journal_audit.specs.Plain.{AreGrouped, AreSound, HasPlainRows, OwesAcks, SleepsBelowCursor}
+use Rattle.journal_audit.specs.Sleeping.{AreWoken, IsAtRest, LaysDown, SleeperLists, WaitsOrRests, is_under, sleeps_on}
 use Rattle.journal_audit.proofs.Kept.{lines_changed, lines_delivered, lines_push}
-use Rattle.journal_audit.proofs.Lines.{HasLine, OldOrNew, WasLine, held_get, get_held, old_or_new, same_held, was_line}
+use Rattle.journal_audit.proofs.Lines.{WasLine, held_get, get_held, old_or_new, same_held, was_line}
 use Rattle.journal_audit.proofs.Places.{held_push}
+use Rattle.journal_audit.proofs.Sleeps.{DiffersAt, differs_delivered, differs_held, differs_invalid, rests_on, steps_judged}
 
 never : (b : Bool) → b ≡ true → b ≡ false → ⊥
 never b holds fails = false≢true (sym fails ∙ holds)
@@ -22,10 +24,20 @@ not_true : (b : Bool) → (b ≡ true → ⊥) → b ≡ false
 not_true true h = absurd (h refl)
 not_true false h = refl
 
--- a set to which numbers were added, and one from which they were taken
-added : (t old : Bool) → cond t true old ≡ false → (t ≡ false) × (old ≡ false)
+-- a set to which numbers were added
+pub added : (t old : Bool) → cond t true old ≡ false → (t ≡ false) × (old ≡ false)
 added true old e = absurd (false≢true (sym e))
 added false old e = (refl, e)
+
+-- who waits behind a change and its wake
+pub woken_as : (kept : Kept) (sleepers : SleeperLists) (id own : Id) (numbers mid new : List ℕ) (before : ℕ → Bool) → own ≡ id
+    → ((m : ℕ) → has numbers m ≡ is_under sleepers id m) → AreWoken kept id numbers mid new → ((m : ℕ) → has mid m ≡ before m)
+    → (m : ℕ) → has new m ≡ false → (before m ≡ false) × (is_under sleepers own m ≡ true → sleeps_on kept own (slice_get kept.lines m) ≡ true)
+woken_as kept sleepers id own numbers mid new before named under woken mid_is m out =
+    let told = woken m out in (
+      sym (mid_is m) ∙ told.0,
+      λ u. ap (λ (x : Id). sleeps_on kept x (slice_get kept.lines m)) named ∙ told.1 (under m ∙ (ap (λ (x : Id). is_under sleepers x m) (sym named) ∙ u)),
+    )
 
 grouped_push : (groups : List Known) (hs : List Held) (h : Held) → AreGrouped groups hs → is_some (group_at groups h.message.group) ≡ true → AreGrouped groups (hs ++ h ∷ [])
 grouped_push groups [] h all known = and_from (is_some (group_at groups h.message.group)) true known refl
@@ -39,13 +51,14 @@ still_held hs h id none = by (held_at hs id) refl where
   by None e = ap is_some e
   by (Some x) e = absurd (never (is_held (hs ++ h ∷ []) id) (ap is_some (held_at-push hs h id x e)) none)
 
-module _ (contacts : ℕ) (groups : List Known) (levels : LevelMap) (kept : Kept) (rows : Rows) (waiting : List ℕ) (owed : List (List ℕ)) (cursors : CursorLists)
-    (s : AreSound contacts groups levels kept rows waiting owed cursors) where
+module _ (contacts : ℕ) (groups : List Known) (levels : LevelMap) (kept : Kept) (rows : Rows) (waiting : List ℕ) (sleepers : SleeperLists) (owed : List (List ℕ)) (cursors : CursorLists)
+    (s : AreSound contacts groups levels kept rows waiting sleepers owed cursors) where
   -- ---- one message more
 
   module _ (kept' : Kept) (waiting' : List ℕ) (l : Line) (more : kept'.lines ≡ kept.lines ++ l ∷ []) (same : kept'.delivered ≡ kept.delivered)
-      (known : is_some (group_at groups l.message.group) ≡ true) (new : is_held (held_in kept.lines) l.id ≡ false) (undelivered : l.delivered ≡ false)
-      (waits_too : (m : ℕ) → has waiting' m ≡ cond (nat_eq m (length kept.lines)) true (has waiting m)) where
+      (known : is_some (group_at groups l.message.group) ≡ true) (new : is_held (held_in kept.lines) l.id ≡ false) (undelivered : l.delivered ≡ false) (valid : l.invalid ≡ false)
+      (waits_too : (m : ℕ) → has waiting' m ≡ false
+      → (cond (nat_eq m (length kept.lines)) true (has waiting m) ≡ false) × (is_under sleepers l.id m ≡ true → sleeps_on kept' l.id (slice_get kept'.lines m) ≡ true)) where
     held_more : held_in kept'.lines ≡ held_in kept.lines ++ held_of l ∷ []
     held_more = ap held_in more ∙ held_push kept.lines l
 
@@ -57,11 +70,14 @@ module _ (contacts : ℕ) (groups : List Known) (levels : LevelMap) (kept : Kept
           | inr both ↦ inr (both.0, line.is ∙ ap held_of both.1)
         ]
 
-    waits : WaitsOrHasEnded kept'.lines waiting'
+    waits : WaitsOrRests kept' waiting' sleepers
     waits m x at out =
+        let told = waits_too m out in
+        let apart = added (nat_eq m (length kept.lines)) (has waiting m) told.0 in
         elim (old_or_new kept.lines l m x (ap (λ (ls : List Line). slice_get ls m) (sym more) ∙ at)).cases [
-          | inl old ↦ s.waits m x old (added _ _ (sym (waits_too m) ∙ out)).1
-          | inr both ↦ absurd (never (nat_eq m (length kept.lines)) (eq-eqb m (length kept.lines) both.0) (added _ _ (sym (waits_too m) ∙ out)).0)
+          | inl old ↦ rests_on kept kept' sleepers l.id m x (differs_held kept kept' l s.lines more same valid) (s.waits m x old apart.1)
+              (λ under. ap (sleeps_on kept' l.id) (sym at) ∙ told.1 under)
+          | inr both ↦ absurd (never (nat_eq m (length kept.lines)) (eq-eqb m (length kept.lines) both.0) apart.0)
         ]
 
     owes : OwesAcks (held_in kept'.lines) rows owed
@@ -81,7 +97,7 @@ module _ (contacts : ℕ) (groups : List Known) (levels : LevelMap) (kept : Kept
     longer : length kept'.lines ≡ length kept.lines + 1
     longer = ap length more ∙ length-append kept.lines (l ∷ [])
 
-    pub sound_held : AreSound contacts groups levels kept' rows waiting' owed cursors
+    pub sound_held : AreSound contacts groups levels kept' rows waiting' sleepers owed cursors
     sound_held = record {
       lines = lines_push kept kept' l s.lines more same new undelivered;
       levels_fit = s.levels_fit;
@@ -95,9 +111,10 @@ module _ (contacts : ℕ) (groups : List Known) (levels : LevelMap) (kept : Kept
 
   -- ---- what became of a message
 
-  changed_so : (change : Line → Line) → ((l : Line) → held_of (change l) ≡ held_of l) → (kept' : Kept) (n : ℕ) (waiting' : List ℕ) → kept'.lines ≡ line_changed change n kept.lines
-      → AreLines kept' → WaitsOrHasEnded kept'.lines waiting' → AreSound contacts groups levels kept' rows waiting' owed cursors
-  changed_so change held kept' n waiting' changed lines waits =
+  changed_so : (change : Line → Line) → ((l : Line) → held_of (change l) ≡ held_of l) → (kept' : Kept) (n : ℕ) (waiting' : List ℕ) (sleepers' : SleeperLists)
+      → kept'.lines ≡ line_changed change n kept.lines → AreLines kept' → WaitsOrRests kept' waiting' sleepers'
+      → AreSound contacts groups levels kept' rows waiting' sleepers' owed cursors
+  changed_so change held kept' n waiting' sleepers' changed lines waits =
       let hs : held_in kept'.lines ≡ held_in kept.lines = ap held_in changed ∙ same_held change held n kept.lines in
       let same_length : length kept'.lines ≡ length kept.lines =
       sym (length-map kept'.lines held_of) ∙ (ap length hs ∙ length-map kept.lines held_of) in
@@ -112,32 +129,58 @@ module _ (contacts : ℕ) (groups : List Known) (levels : LevelMap) (kept : Kept
         within = λ c. let most = s.within c in let long = same_length in omega (arith, most, long);
       }
 
-  pub sound_judged : (kept' : Kept) (n : ℕ) → kept'.lines ≡ line_changed judged_line n kept.lines → kept'.delivered ≡ kept.delivered
-      → AreSound contacts groups levels kept' rows waiting owed cursors
-  sound_judged kept' n changed same =
-      changed_so judged_line (λ l. refl) kept' n waiting changed (lines_changed judged_line (λ l. refl) (λ l. refl) kept kept' n s.lines changed same) waits
+  pub lines_judged : (kept' : Kept) (n : ℕ) → kept'.lines ≡ line_changed judged_line n kept.lines → kept'.delivered ≡ kept.delivered → AreLines kept'
+  lines_judged kept' n changed same = lines_changed judged_line (λ l. refl) (λ l. refl) kept kept' n s.lines changed same
+
+  pub sound_judged : (kept' : Kept) (n : ℕ) (waiting' : List ℕ) (sleepers' : SleeperLists) → kept'.lines ≡ line_changed judged_line n kept.lines → kept'.delivered ≡ kept.delivered
+      → LaysDown kept' waiting waiting' sleepers sleepers' → AreSound contacts groups levels kept' rows waiting' sleepers' owed cursors
+  sound_judged kept' n waiting' sleepers' changed same lays =
+      changed_so judged_line (λ l. refl) kept' n waiting' sleepers' changed (lines_judged kept' n changed same) waits
     where
-      by : (m : ℕ) (x : Line) → has waiting m ≡ false → WasLine judged_line n kept.lines m x → (x.judged ≡ true) × ((x.delivered || x.invalid) ≡ true)
-      by m x out was =
+      now : (b : Line) → IsAtRest kept sleepers n b → IsAtRest kept' sleepers' n (judged_line b)
+      now b rest = record {
+        judged = refl;
+        still = λ on. (
+          ap (λ (f : Facts). step_open f (held_of b) b.answer) (steps_judged kept kept' n changed same) ∙ (rest.still on).0,
+          λ d among. lays.sleepers d n ((rest.still on).1 d among),
+        );
+      }
+
+      as_before : (m : ℕ) (b : Line) → IsAtRest kept sleepers m b → IsAtRest kept' sleepers' m b
+      as_before m b rest = record {
+        judged = rest.judged;
+        still = λ on. (
+          ap (λ (f : Facts). step_open f (held_of b) b.answer) (steps_judged kept kept' n changed same) ∙ (rest.still on).0,
+          λ d among. lays.sleepers d m ((rest.still on).1 d among),
+        );
+      }
+
+      slept : (m : ℕ) (x : Line) → has waiting m ≡ false → WasLine judged_line n kept.lines m x → IsAtRest kept' sleepers' m x
+      slept m x out was =
           let old = s.waits m was.before was.at out in
           elim was.became [
-            | inl both ↦ subst (λ (y : Line). (y.judged ≡ true) × ((y.delivered || y.invalid) ≡ true)) (sym both.1) (refl, old.1)
-            | inr both ↦ subst (λ (y : Line). (y.judged ≡ true) × ((y.delivered || y.invalid) ≡ true)) (sym both.1) old
+            | inl both ↦ subst (λ (y : Line). IsAtRest kept' sleepers' m y) (sym both.1)
+                (subst (λ (k : ℕ). IsAtRest kept' sleepers' k (judged_line was.before)) (sym both.0) (now was.before (subst (λ (k : ℕ). IsAtRest kept sleepers k was.before) both.0 old)))
+            | inr both ↦ subst (λ (y : Line). IsAtRest kept' sleepers' m y) (sym both.1) (as_before m was.before old)
           ]
 
-      waits : WaitsOrHasEnded kept'.lines waiting
-      waits m x at out = by m x out (was_line judged_line n kept.lines m x (ap (λ (ls : List Line). slice_get ls m) (sym changed) ∙ at))
+      waits : WaitsOrRests kept' waiting' sleepers'
+      waits m x at out = by (has waiting m) refl where
+        by : (b : Bool) → has waiting m ≡ b → IsAtRest kept' sleepers' m x
+        by true e = lays.rests m x at e out
+        by false e = slept m x e (was_line judged_line n kept.lines m x (ap (λ (ls : List Line). slice_get ls m) (sym changed) ∙ at))
 
-  -- a message that ends waits no more, if it was judged
+  -- a message that ends waits no more, if it was judged; and those are woken that sleep under it
   ended_so : (change : Line → Line) → ((l : Line) → held_of (change l) ≡ held_of l) → ((l : Line) → (change l).judged ≡ l.judged)
       → ((l : Line) → ((change l).delivered || (change l).invalid) ≡ true) → (kept' : Kept) (n : ℕ) (l : Line) (waiting' : List ℕ) → slice_get kept.lines n ≡ Some l
-      → kept'.lines ≡ line_changed change n kept.lines → AreLines kept'
-      → ((m : ℕ) → has waiting' m ≡ cond (nat_eq m n && l.judged) false (has waiting m)) → AreSound contacts groups levels kept' rows waiting' owed cursors
-  ended_so change held judged ends kept' n l waiting' here changed lines stops = changed_so change held kept' n waiting' changed lines waits
+      → kept'.lines ≡ line_changed change n kept.lines → AreLines kept' → DiffersAt kept kept' l.id
+      → ((m : ℕ) → has waiting' m ≡ false
+      → (cond (nat_eq m n && l.judged) false (has waiting m) ≡ false) × (is_under sleepers l.id m ≡ true → sleeps_on kept' l.id (slice_get kept'.lines m) ≡ true))
+      → AreSound contacts groups levels kept' rows waiting' sleepers owed cursors
+  ended_so change held judged ends kept' n l waiting' here changed lines differs stops = changed_so change held kept' n waiting' sleepers changed lines waits
     where
-      still : (m : ℕ) (b : Line) → slice_get kept.lines m ≡ Some b → (j : Bool) → b.judged ≡ j → (nat_eq m n && l.judged) ≡ false → has waiting' m ≡ false
-          → (b.judged ≡ true) × ((b.delivered || b.invalid) ≡ true)
-      still m b at j e apart out = s.waits m b at (sym (stops m ∙ ap (λ t. cond t false (has waiting m)) apart) ∙ out)
+      still : (m : ℕ) (b : Line) → slice_get kept.lines m ≡ Some b → (nat_eq m n && l.judged) ≡ false → has waiting' m ≡ false → IsAtRest kept sleepers m b
+      still m b at apart out = s.waits m b at (sym (ap (λ t. cond t false (has waiting m)) apart) ∙ (stops m out).0)
 
       was_judged : (m : ℕ) (b : Line) → slice_get kept.lines m ≡ Some b → m ≡ n → has waiting' m ≡ false → (j : Bool) → l.judged ≡ j → b.judged ≡ true
       was_judged m b at e out true is =
@@ -146,7 +189,7 @@ module _ (contacts : ℕ) (groups : List Known) (levels : LevelMap) (kept : Kept
           ap (λ (y : Line). y.judged) same ∙ is
       was_judged m b at e out false is =
           let off : (nat_eq m n && l.judged) ≡ false = ap (λ j. nat_eq m n && j) is ∙ by (nat_eq m n) in
-          (still m b at (b.judged) refl off out).0
+          (still m b at off out).judged
         where
           by : (t : Bool) → (t && false) ≡ false
           by true = refl
@@ -155,31 +198,45 @@ module _ (contacts : ℕ) (groups : List Known) (levels : LevelMap) (kept : Kept
       apart : (m : ℕ) → (m ≡ n → ⊥) → (nat_eq m n && l.judged) ≡ false
       apart m other = ap (λ t. t && l.judged) (not_true (nat_eq m n) (λ e. other (eqb-true m n e)))
 
-      by : (m : ℕ) (x : Line) → has waiting' m ≡ false → WasLine change n kept.lines m x → (x.judged ≡ true) × ((x.delivered || x.invalid) ≡ true)
-      by m x out was =
+      over : (m : ℕ) (b : Line) → b.judged ≡ true → IsAtRest kept' sleepers m (change b)
+      over m b is = record { judged = judged b ∙ is; still = λ on. absurd (never ((change b).delivered || (change b).invalid) (ends b) on) }
+
+      by : (m : ℕ) (x : Line) → slice_get kept'.lines m ≡ Some x → has waiting' m ≡ false → WasLine change n kept.lines m x → IsAtRest kept' sleepers m x
+      by m x at out was =
           elim was.became [
-            | inl both ↦ subst (λ (y : Line). (y.judged ≡ true) × ((y.delivered || y.invalid) ≡ true)) (sym both.1)
-                (judged was.before ∙ was_judged m was.before was.at both.0 out l.judged refl, ends was.before)
-            | inr both ↦ subst (λ (y : Line). (y.judged ≡ true) × ((y.delivered || y.invalid) ≡ true)) (sym both.1)
-                (still m was.before was.at (was.before.judged) refl (apart m both.0) out)
+            | inl both ↦ subst (λ (y : Line). IsAtRest kept' sleepers m y) (sym both.1) (over m was.before (was_judged m was.before was.at both.0 out l.judged refl))
+            | inr both ↦ subst (λ (y : Line). IsAtRest kept' sleepers m y) (sym both.1)
+                (rests_on kept kept' sleepers l.id m was.before differs (still m was.before was.at (apart m both.0) out)
+                (λ under. ap (λ (y : Line). sleeps_on kept' l.id (Some y)) (sym both.1) ∙ (ap (sleeps_on kept' l.id) (sym at) ∙ (stops m out).1 under)))
           ]
 
-      waits : WaitsOrHasEnded kept'.lines waiting'
-      waits m x at out = by m x out (was_line change n kept.lines m x (ap (λ (ls : List Line). slice_get ls m) (sym changed) ∙ at))
+      waits : WaitsOrRests kept' waiting' sleepers
+      waits m x at out = by m x at out (was_line change n kept.lines m x (ap (λ (ls : List Line). slice_get ls m) (sym changed) ∙ at))
 
   invalid_ends : (l : Line) → (l.delivered || true) ≡ true
   invalid_ends l = or_right l.delivered true refl
 
+  pub lines_refused : (kept' : Kept) (n : ℕ) → kept'.lines ≡ line_changed invalid_line n kept.lines → kept'.delivered ≡ kept.delivered → AreLines kept'
+  lines_refused kept' n changed same = lines_changed invalid_line (λ x. refl) (λ x. refl) kept kept' n s.lines changed same
+
   pub sound_refused : (kept' : Kept) (n : ℕ) (l : Line) (waiting' : List ℕ) → slice_get kept.lines n ≡ Some l → kept'.lines ≡ line_changed invalid_line n kept.lines
-      → kept'.delivered ≡ kept.delivered → ((m : ℕ) → has waiting' m ≡ cond (nat_eq m n && l.judged) false (has waiting m))
-      → AreSound contacts groups levels kept' rows waiting' owed cursors
+      → kept'.delivered ≡ kept.delivered
+      → ((m : ℕ) → has waiting' m ≡ false
+      → (cond (nat_eq m n && l.judged) false (has waiting m) ≡ false) × (is_under sleepers l.id m ≡ true → sleeps_on kept' l.id (slice_get kept'.lines m) ≡ true))
+      → AreSound contacts groups levels kept' rows waiting' sleepers owed cursors
   sound_refused kept' n l waiting' here changed same stops =
-      ended_so invalid_line (λ x. refl) (λ x. refl) invalid_ends kept' n l waiting' here changed
-      (lines_changed invalid_line (λ x. refl) (λ x. refl) kept kept' n s.lines changed same) stops
+      ended_so invalid_line (λ x. refl) (λ x. refl) invalid_ends kept' n l waiting' here changed (lines_refused kept' n changed same)
+      (differs_invalid kept kept' n l here changed same) stops
+
+  pub lines_ended : (kept' : Kept) (n : ℕ) (l : Line) → slice_get kept.lines n ≡ Some l → kept'.lines ≡ line_changed delivered_line n kept.lines
+      → kept'.delivered ≡ kept.delivered ++ n ∷ [] → AreLines kept'
+  lines_ended kept' n l here changed pushed = lines_delivered kept kept' n l s.lines here (slice_get_within kept.lines n l here) changed pushed
 
   pub sound_delivered : (kept' : Kept) (n : ℕ) (l : Line) (waiting' : List ℕ) → slice_get kept.lines n ≡ Some l → kept'.lines ≡ line_changed delivered_line n kept.lines
-      → kept'.delivered ≡ kept.delivered ++ n ∷ [] → ((m : ℕ) → has waiting' m ≡ cond (nat_eq m n && l.judged) false (has waiting m))
-      → AreSound contacts groups levels kept' rows waiting' owed cursors
+      → kept'.delivered ≡ kept.delivered ++ n ∷ []
+      → ((m : ℕ) → has waiting' m ≡ false
+      → (cond (nat_eq m n && l.judged) false (has waiting m) ≡ false) × (is_under sleepers l.id m ≡ true → sleeps_on kept' l.id (slice_get kept'.lines m) ≡ true))
+      → AreSound contacts groups levels kept' rows waiting' sleepers owed cursors
   sound_delivered kept' n l waiting' here changed pushed stops =
-      ended_so delivered_line (λ x. refl) (λ x. refl) (λ x. refl) kept' n l waiting' here changed
-      (lines_delivered kept kept' n l s.lines here (slice_get_within kept.lines n l here) changed pushed) stops
+      ended_so delivered_line (λ x. refl) (λ x. refl) (λ x. refl) kept' n l waiting' here changed (lines_ended kept' n l here changed pushed)
+      (differs_delivered kept kept' n l here changed pushed) stops

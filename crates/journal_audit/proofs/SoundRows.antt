@@ -1,8 +1,8 @@
 -- What holds of plain facts stays so when a row changes.
-use Rattle.std.proofs.Common.{◌≡◌, ℕ, ◌<◌, ◌≤◌, ◌⊎◌, Bool, true, false, not, cond, ◌&&◌, ◌||◌, nat_lt, arith, List, Option, Some, None, refl, sym, ◌∙◌, ap, subst, inl, inr, nat_eq, eq-eqb, eqb-true, is_some}
+use Rattle.std.proofs.Common.{◌≡◌, ℕ, ◌<◌, ◌≤◌, Bool, true, false, not, cond, ◌&&◌, ◌||◌, nat_lt, arith, List, Some, refl, sym, ◌∙◌, ap, subst, nat_eq, eq-eqb, eqb-true, is_some}
 use Rattle.std.specs.List.{slice_get}
-use Rattle.std.proofs.lemmas.Bool.{and_from, and_parts, false≢true}
-use Rattle.sync_rules.specs.Facts.{Held, Id, Known, LevelMap, Row, Rows, change_row, held_at, is_held, is_level_shared, level_at, row_at}
+use Rattle.std.proofs.lemmas.Bool.{and_parts, false≢true}
+use Rattle.sync_rules.specs.Facts.{Held, Id, Known, LevelMap, Row, Rows, change_row, is_held, is_level_shared, level_at, row_at}
 use Rattle.sync_rules.specs.Lists.{same_id}
 use Rattle.sync_rules.specs.Views.{IsPlace, place_of}
 use Rattle.sync_rules.proofs.Elements.{same_id-is, same_id_itself}
@@ -10,6 +10,7 @@ use Rattle.sync_rules.proofs.RowLaws.{hits, row_at_change}
 use Rattle.journal_audit.specs.Lines.{Kept, held_in}
 use Rattle.journal_audit.specs.Numbers.{CursorLists, from_of, has_for, until_of}
 use Rattle.journal_audit.specs.Plain.{AreSound, AreWithin, HasPlainRows, OwesAcks, SleepsBelowCursor, is_awake}
+use Rattle.journal_audit.specs.Sleeping.{SleeperLists}
 use Rattle.journal_audit.proofs.Lines.{place_own}
 
 never : (b : Bool) → b ≡ true → b ≡ false → ⊥
@@ -19,8 +20,8 @@ not_true : (b : Bool) → (b ≡ true → ⊥) → b ≡ false
 not_true true h = absurd (h refl)
 not_true false h = refl
 
-module _ (contacts : ℕ) (groups : List Known) (levels : LevelMap) (kept : Kept) (rows : Rows) (waiting : List ℕ) (owed : List (List ℕ)) (cursors : CursorLists)
-    (s : AreSound contacts groups levels kept rows waiting owed cursors) where
+module _ (contacts : ℕ) (groups : List Known) (levels : LevelMap) (kept : Kept) (rows : Rows) (waiting : List ℕ) (sleepers : SleeperLists) (owed : List (List ℕ)) (cursors : CursorLists)
+    (s : AreSound contacts groups levels kept rows waiting sleepers owed cursors) where
   module _ (rows' : Rows) (owed' : List (List ℕ)) (cursors' : CursorLists) (c : ℕ) (id : Id) (n : ℕ) (change : Row → Row) (row : Row) (place : IsPlace (held_in kept.lines) id n)
       (changed : rows' ≡ change_row rows c id change) (row_is : row ≡ change (row_at rows c id))
       (owed_is : (x m : ℕ) → has_for owed' x m ≡ cond (nat_eq x c && nat_eq m n) row.owed (has_for owed x m))
@@ -107,7 +108,7 @@ module _ (contacts : ℕ) (groups : List Known) (levels : LevelMap) (kept : Kept
     within : AreWithin kept.lines cursors'
     within x = let fewer = less x in let old = s.within x in omega (arith, fewer, old)
 
-    pub sound_row : AreSound contacts groups levels kept rows' waiting owed' cursors'
+    pub sound_row : AreSound contacts groups levels kept rows' waiting sleepers owed' cursors'
     sound_row = record {
       lines = s.lines;
       levels_fit = s.levels_fit;

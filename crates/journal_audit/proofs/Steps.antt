@@ -6,43 +6,47 @@ use Rattle.std.proofs.lemmas.Bool.{false≢true}
 use Rattle.std.specs.List.{AllByRecursion, cons_option, slice_get}
 use Rattle.std.specs.List.Sorted.{IsStrictlySortedBy}
 use Rattle.std.specs.Ordering.{nat_cmp}
+use Rattle.sync_rules.specs.declared.answers.Judgement.{Judgement}
+use Rattle.sync_rules.specs.declared.answers.Judgement.TheVariants as judgement
 use Rattle.sync_rules.specs.declared.entries.Entry.{Entry}
 use Rattle.sync_rules.specs.declared.entries.Entry.TheVariants as entry
 use Rattle.sync_rules.specs.Clients.{Meaning}
-use Rattle.sync_rules.specs.Facts.{Facts, Held, Id, held_at, is_held}
+use Rattle.sync_rules.specs.Facts.{Facts, Held, Id, held_at}
 use Rattle.sync_rules.specs.Left.{left_among, left_for, left_of}
-use Rattle.sync_rules.specs.Lists.{is_among, same_id}
+use Rattle.sync_rules.specs.Lists.{same_id}
 use Rattle.sync_rules.specs.Steps.{first_step, is_elsewhere, is_ended, is_failing, next, step}
 use Rattle.sync_rules.specs.Steps.{step_by, step_open, verdict_in}
-use Rattle.sync_rules.specs.Views.{IsFound, IsPlace, place_of}
+use Rattle.sync_rules.specs.Views.{IsPlace, place_of}
 use Rattle.journal_audit.specs.declared.facts.PlainFacts.{PlainFacts}
 use Rattle.journal_audit.specs.declared.messages.Line.{Line}
-use Rattle.journal_audit.specs.Lines.{held_in, held_of, invalid_in, judged_in, left_for_line, left_in}
+use Rattle.journal_audit.specs.Lines.{AreLines, Kept, held_in, held_of, invalid_in, judged_in, left_for_line, left_in}
 use Rattle.journal_audit.specs.Looks.{first_at, of_held, picks_at, picks_of, step_at, step_of_line}
 use Rattle.journal_audit.specs.Numbers.{has}
 use Rattle.journal_audit.specs.Plain.{IsPlainSound, KnowsMeanings, facts_of}
 use Rattle.journal_audit.proofs.Lines.{flag_at, flagged_is, get_held, held_get, not_flagged, own_flag, place_none}
+use Rattle.journal_audit.specs.Sleeping.{steps_of}
+use Rattle.journal_audit.proofs.Sleeps.{rest_step}
 use Rattle.journal_audit.proofs.Sparse.{picks_all}
 use Rattle.journal_audit.proofs.Took.{line_named}
 
 -- ---- dependencies
 
-pub not_failing : (p : PlainFacts) (group id : Id) → place_of (held_in p.messages.lines) id ≡ None → false ≡ is_failing (facts_of p) group id
-not_failing p group id none =
-    let ls = p.messages.lines in
+pub not_failing : (kept : Kept) (group id : Id) → place_of (held_in kept.lines) id ≡ None → false ≡ is_failing (steps_of kept) group id
+not_failing kept group id none =
+    let ls = kept.lines in
     let away : held_at (held_in ls) id ≡ None = place_none (held_in ls) id none in
     let valid : fin_set.contains (invalid_in ls) id ≡ false = flagged_is (λ l. l.invalid) ls id ∙ not_flagged (λ l. l.invalid) ls id (ap is_some away) in
     λ i. is_elsewhere group (sym away i) || sym valid i
 
-pub failing_line : (p : PlainFacts) (group id : Id) (n : ℕ) (l : Line) → IsPlainSound p → IsPlace (held_in p.messages.lines) id n → slice_get p.messages.lines n ≡ Some l
-    → (cond (same_id l.message.group group) false true || l.invalid) ≡ is_failing (facts_of p) group id
-failing_line p group id n l sound place at =
-    let ls = p.messages.lines in
+pub failing_line : (kept : Kept) (group id : Id) (n : ℕ) (l : Line) → AreLines kept → IsPlace (held_in kept.lines) id n → slice_get kept.lines n ≡ Some l
+    → (cond (same_id l.message.group group) false true || l.invalid) ≡ is_failing (steps_of kept) group id
+failing_line kept group id n l are place at =
+    let ls = kept.lines in
     let one : Some (held_of l) ≡ Some place.message = sym (get_held ls n l at) ∙ place.stands in
     let same : place.message ≡ held_of l = cc in
     let here : held_at (held_in ls) id ≡ Some (held_of l) = place.first ∙ ap (λ (h : Held). Some h) same in
     let valid : fin_set.contains (invalid_in ls) id ≡ l.invalid =
-    flagged_is (λ x. x.invalid) ls id ∙ subst (λ (x : Id). flag_at (λ y. y.invalid) ls x ≡ l.invalid) (line_named ls id n l place at) (own_flag (λ x. x.invalid) ls n l sound.lines.distinct at) in
+    flagged_is (λ x. x.invalid) ls id ∙ subst (λ (x : Id). flag_at (λ y. y.invalid) ls x ≡ l.invalid) (line_named ls id n l place at) (own_flag (λ x. x.invalid) ls n l are.distinct at) in
     λ i. is_elsewhere group (sym here i) || sym valid i
 
 pub elsewhere : (b c : Bool) → true ≡ not b → true ≡ (cond b false true || c)
@@ -117,16 +121,30 @@ first_is clients f [] = refl
 first_is clients f (h ∷ hs) = sym (first_cons (step clients f h) (picks_of (step clients f) hs))
     ∙ ap (option_or (step clients f h)) (first_is clients f hs)
 
+-- a step looks at nothing else of the facts
+open_steps : (p : PlainFacts) (h : Held) (answer : Judgement) → step_open (facts_of p) h answer ≡ step_open (steps_of p.messages) h answer
+open_steps p h judgement.Refuse = refl
+open_steps p h (judgement.Accept deps share) = refl
+
+line_steps : (p : PlainFacts) (l : Line) → step_of_line (facts_of p) l ≡ step_of_line (steps_of p.messages) l
+line_steps p l = ap (λ (o : Option Entry). cond l.judged (cond (l.delivered || l.invalid) None o) (Some (entry.Judged l.id))) (open_steps p (held_of l) l.answer)
+
+at_steps : (p : PlainFacts) (o : Option Line) → step_at (facts_of p) o ≡ step_at (steps_of p.messages) o
+at_steps p None = refl
+at_steps p (Some l) = line_steps p l
+
+pub first_steps : (p : PlainFacts) (ls : List Line) (ns : List ℕ) → first_at (facts_of p) ls ns ≡ first_at (steps_of p.messages) ls ns
+first_steps p ls [] = refl
+first_steps p ls (n ∷ ns) = λ i. option_or (at_steps p (slice_get ls n) i) (first_steps p ls ns i)
+
 -- a message that does not wait has no step
 no_step : (clients : Meaning) (p : PlainFacts) (n : ℕ) (h : Held) → IsPlainSound p → KnowsMeanings clients p → slice_get (held_in p.messages.lines) n ≡ Some h → has p.waiting n ≡ false
     → step clients (facts_of p) h ≡ None
 no_step clients p n h sound knows at out =
     let found = held_get p.messages.lines n h at in
     let l = found.line in
-    let over = sound.waits n l found.at out in
-    ap (step clients (facts_of p)) found.is
-    ∙ (sym (line_step clients p n l sound knows found.at)
-    ∙ (λ i. cond (over.0 i) (cond (over.1 i) None (step_open (facts_of p) (held_of l) l.answer)) (Some (entry.Judged l.id))))
+    let none : step_of_line (facts_of p) l ≡ None = line_steps p l ∙ rest_step p.messages p.sleepers n l (sound.waits n l found.at out) in
+    ap (step clients (facts_of p)) found.is ∙ (sym (line_step clients p n l sound knows found.at) ∙ none)
 
 -- the first step among those that wait is the next one
 pub next_waits : (clients : Meaning) (p : PlainFacts) (ns : List ℕ) → IsPlainSound p → KnowsMeanings clients p → ns ≡ p.waiting → IsStrictlySortedBy nat_cmp p.waiting

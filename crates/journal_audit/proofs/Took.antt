@@ -1,7 +1,7 @@
 -- Entries that change a line or rows.
 use Rattle.std.proofs.Common.{◌≡◌, ℕ, ◌+◌, ◌<◌, true, false, List, [], ◌∷◌, length, drop, Option, Some, None, cond, is_some, ◌++◌, Result, Ok, Err, OnOk, refl, sym, ◌∙◌, ap, subst, get_or}
 use Rattle.std.specs.List.{list_all, slice_get}
-use Rattle.std.proofs.lemmas.Bool.{and_parts, false≢true, or_right}
+use Rattle.std.proofs.lemmas.Bool.{and_parts, false≢true}
 use Rattle.std.proofs.lemmas.List.{drop_more}
 use Rattle.sync_ids.specs.Ids.{message_id_of}
 use Rattle.sync_ids.specs.Values.{MessageValue}
@@ -22,7 +22,6 @@ use Rattle.journal_audit.specs.declared.messages.Line.{Line}
 use Rattle.journal_audit.specs.Changes.{BecomesFacts, BecomesKnown, FitsOut, with_rows}
 use Rattle.journal_audit.specs.Lines.{held_in, held_of}
 use Rattle.journal_audit.specs.Plain.{IsPlainSound, KnowsMeanings, facts_of, rest_after}
-use Rattle.journal_audit.specs.Rows.{changed_by}
 use Rattle.journal_audit.proofs.Lines.{get_held}
 
 -- the line of a number that was found under an id has that id

@@ -1,11 +1,11 @@
 -- Lists of wanted ids, and the map from contacts to them.
-use Rattle.std.proofs.Common.{◌≡◌, ℕ, Bool, true, false, cond, not, List, [], ◌∷◌, ◌++◌, map, Option, None, Some, refl, sym, ◌∙◌, ap, drop}
+use Rattle.std.proofs.Common.{◌≡◌, ℕ, Bool, true, false, cond, not, List, [], ◌∷◌, map, Option, None, Some, refl, sym, ◌∙◌, ap}
 use Rattle.std.specs.FinMap as fin_map
-use Rattle.std.specs.Cmp.{nat_cmp_total, eq_by_cmp_equiv}
+use Rattle.std.specs.Cmp.{nat_cmp_total}
 use Rattle.std.specs.List.{filter}
 use Rattle.std.specs.Ordering.{eq_by_cmp, nat_cmp}
 use Rattle.std.specs.Option.{option_map}
-use Rattle.sync_rules.specs.Facts.{Id, Wants, change_each, without_each, wanted_by_none}
+use Rattle.sync_rules.specs.Facts.{Id, Wants, change_each, wanted_by_none}
 use Rattle.sync_rules.specs.Lists.{same_id, without}
 
 -- what is left of a list without an id

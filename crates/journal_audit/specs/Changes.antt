@@ -1,5 +1,5 @@
 -- When an entry may be taken into plain facts, and what taking it does beside the facts.
-use Rattle.std.specs.Prelude.{◌≡◌, ℕ, ◌<◌, true, false, List, is_some}
+use Rattle.std.specs.Prelude.{◌≡◌, ◌<◌, true, false, List, is_some}
 use Rattle.std.specs.List.{list_all}
 use Rattle.sync_ids.specs.Values.{MessageValue}
 use Rattle.sync_ids.specs.Ids.{message_id_of}

@@ -1,6 +1,6 @@
 -- The frame that is found at a place of a file's bytes.
 use Rattle.std.specs.Prelude.{◌≡◌, ℕ, ◌+◌, ◌≤◌, List, length, take, drop}
-use Rattle.outside.specs.Frames.{Frame, broken, closed, frame_at, framed}
+use Rattle.outside.specs.Frames.{broken, closed, frame_at, framed}
 use Rattle.journal_audit.specs.declared.frames.Gate.{Gate}
 use Rattle.journal_audit.specs.declared.frames.Gate.TheVariants as gate
 

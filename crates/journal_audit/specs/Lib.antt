@@ -12,4 +12,5 @@ pub mod Reports
 pub mod Rounding
 pub mod Rows
 pub mod Sessions
+pub mod Sleeping
 pub mod Telling

@@ -1,11 +1,11 @@
 -- Looks at some of the messages, by their arrival numbers.
-use Rattle.std.specs.Prelude.{ℕ, Bool, true, false, not, cond, ◌&&◌, ◌||◌, nat_le, List, [], ◌∷◌, Option, None, Some, slice_get}
+use Rattle.std.specs.Prelude.{ℕ, Bool, not, cond, ◌&&◌, ◌||◌, nat_le, List, [], ◌∷◌, Option, None, Some, slice_get}
 use Rattle.std.specs.Option.{option_or}
 use Rattle.std.specs.List.{cons_option}
 use Rattle.sync_rules.specs.declared.entries.Mode.{Mode}
 use Rattle.sync_rules.specs.declared.entries.Entry.{Entry}
 use Rattle.sync_rules.specs.declared.entries.Entry.TheVariants as entry
-use Rattle.sync_rules.specs.Facts.{Facts, Held, Id, LevelMap, Row, Rows, is_level_shared, level_at, row_at}
+use Rattle.sync_rules.specs.Facts.{Facts, Held, Id, LevelMap, Row, is_level_shared, level_at, row_at}
 use Rattle.sync_rules.specs.Sessions.{is_author, is_ripe, is_sendable}
 use Rattle.sync_rules.specs.Steps.{step_open}
 use Rattle.sync_rules.specs.Views.{Seen}

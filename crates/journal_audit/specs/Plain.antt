@@ -1,5 +1,5 @@
 -- What plain facts stand for, and what holds of them.
-use Rattle.std.specs.Prelude.{◌≡◌, ℕ, ◌<◌, ◌≤◌, Bool, true, false, not, cond, ◌&&◌, ◌||◌, nat_lt, List, [], ◌∷◌, length, Some, is_some, slice_get}
+use Rattle.std.specs.Prelude.{◌≡◌, ℕ, ◌<◌, ◌≤◌, Bool, true, false, not, ◌&&◌, ◌||◌, nat_lt, List, length, Some, is_some, slice_get}
 use Rattle.std.specs.List.{AllByRecursion, list_all}
 use Rattle.sync_rules.specs.declared.answers.Judgement.{Judgement}
 use Rattle.sync_rules.specs.declared.answers.Judgement.TheVariants as judgement
@@ -11,7 +11,8 @@ use Rattle.sync_rules.specs.Steps.{verdict_in}
 use Rattle.journal_audit.specs.declared.facts.PlainFacts.{PlainFacts}
 use Rattle.journal_audit.specs.declared.messages.Line.{Line}
 use Rattle.journal_audit.specs.Lines.{AreLines, Kept, delivered_in, held_in, ids_flagged, invalid_in, judged_in}
-use Rattle.journal_audit.specs.Numbers.{CursorLists, from_of, has, has_for, until_of}
+use Rattle.journal_audit.specs.Numbers.{CursorLists, from_of, has_for, until_of}
+use Rattle.journal_audit.specs.Sleeping.{SleeperLists, WaitsOrRests}
 
 -- ---- the facts
 
@@ -66,11 +67,6 @@ AreGrouped groups held = list_all (λ h. is_some (group_at groups h.message.grou
 abbrev pub HasPlainRows : List Held → Rows → Type 0
 HasPlainRows held rows = (contact : ℕ) (id : Id) → is_held held id ≡ false → row_at rows contact id ≡ no_row
 
--- a message that is not waiting is judged, and is delivered or invalid
-abbrev pub WaitsOrHasEnded : List Line → List ℕ → Type 0
-WaitsOrHasEnded lines waiting =
-    (n : ℕ) (l : Line) → slice_get lines n ≡ Some l → has waiting n ≡ false → (l.judged ≡ true) × ((l.delivered || l.invalid) ≡ true)
-
 -- a message that is not among those owed waits for no acknowledgement
 abbrev pub OwesAcks : List Held → Rows → List (List ℕ) → Type 0
 OwesAcks held rows owed =
@@ -92,18 +88,18 @@ SleepsBelowCursor held levels rows cursors =
 abbrev pub AreWithin : List Line → CursorLists → Type 0
 AreWithin lines cursors = (contact : ℕ) → from_of cursors contact ≤ length lines
 
-pub record AreSound (contacts : ℕ) (groups : List Known) (levels : LevelMap) (kept : Kept) (rows : Rows) (waiting : List ℕ) (owed : List (List ℕ)) (cursors : CursorLists) : Type 0 where
+pub record AreSound (contacts : ℕ) (groups : List Known) (levels : LevelMap) (kept : Kept) (rows : Rows) (waiting : List ℕ) (sleepers : SleeperLists) (owed : List (List ℕ)) (cursors : CursorLists) : Type 0 where
   pub lines : AreLines kept
   pub levels_fit : HasPlainLevels contacts groups levels
   pub grouped : AreGrouped groups (held_in kept.lines)
   pub rows_fit : HasPlainRows (held_in kept.lines) rows
-  pub waits : WaitsOrHasEnded kept.lines waiting
+  pub waits : WaitsOrRests kept waiting sleepers
   pub owes : OwesAcks (held_in kept.lines) rows owed
   pub sleeps : SleepsBelowCursor (held_in kept.lines) levels rows cursors
   pub within : AreWithin kept.lines cursors
 
 abbrev pub IsPlainSound : PlainFacts → Type 0
-IsPlainSound p = AreSound p.contacts p.groups p.levels p.messages p.rows p.waiting p.owed p.cursors
+IsPlainSound p = AreSound p.contacts p.groups p.levels p.messages p.rows p.waiting p.sleepers p.owed p.cursors
 
 -- a message of this number need not be looked at before this time
 pub record PassesUntil (p : PlainFacts) (contact n until : ℕ) : Type 0 where

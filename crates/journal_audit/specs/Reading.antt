@@ -1,12 +1,10 @@
 -- How far a reader has come in a journal's file.
-use Rattle.std.specs.Prelude.{◌≡◌, ℕ, ◌+◌, ◌<◌, ◌≤◌, List, [], length, Result, Ok, Err}
-use Rattle.outside.specs.declared.disk.Place.{Place}
+use Rattle.std.specs.Prelude.{◌≡◌, ℕ, ◌<◌, ◌≤◌, List, [], length, Result, Ok, Err}
 use Rattle.outside.specs.declared.limits.TheConstants.{MAX_JOURNAL}
 use Rattle.outside.specs.Frames.{closed, frame_at}
 use Rattle.entry_codec.specs.declared.naming.Format.{Format}
 use Rattle.entry_codec.specs.Standing.{Standing, damaged, journal}
 use Rattle.entry_codec.specs.ReadingFiles.{rest_from}
-use Rattle.sync_rules.specs.declared.entries.Entry.{Entry}
 use Rattle.sync_rules.specs.Clients.{Meaning}
 use Rattle.sync_rules.specs.Facts.{entries_of}
 use Rattle.journal_audit.specs.declared.fault.AuditFault.{AuditFault}

@@ -1,5 +1,5 @@
 -- What a report says of a journal.
-use Rattle.std.specs.Prelude.{◌≡◌, true, List, length, count_by}
+use Rattle.std.specs.Prelude.{◌≡◌, List, length, count_by}
 use Rattle.std.specs.FinSet as fin_set
 use Rattle.sync_rules.specs.declared.entries.Entry.{Entry}
 use Rattle.sync_rules.specs.Allows.{is_settled}

@@ -1,5 +1,4 @@
 -- What one more entry makes of a row.
-use Rattle.std.specs.Prelude.{ℕ}
 use Rattle.sync_rules.specs.Facts.{Row, row_acked, row_asked, row_heard, row_offered, row_seen, row_sent, row_tried}
 use Rattle.journal_audit.specs.declared.rows.RowChange.{RowChange}
 use Rattle.journal_audit.specs.declared.rows.RowChange.TheVariants as change

@@ -2,7 +2,7 @@
 use Rattle.std.specs.Prelude.{◌≡◌, true, false}
 use Rattle.sync_rules.specs.Allows.{is_settled}
 use Rattle.sync_rules.specs.Clients.{Meaning}
-use Rattle.sync_rules.specs.Rounds.{Graph, graph_of}
+use Rattle.sync_rules.specs.Rounds.{Graph}
 use Rattle.journal_audit.specs.declared.reading.Played.{Played}
 use Rattle.journal_audit.specs.declared.report.Report.{Report}
 use Rattle.journal_audit.specs.Lines.{held_in}

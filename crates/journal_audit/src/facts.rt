@@ -6,11 +6,13 @@ ghost use Rattle.journal_audit.specs.Plain.{IsPlainSound, KnowsMeanings, facts_o
 
 use crate::cursors::Cursors;
 use crate::groups::Groups;
+use crate::hints::Hints;
 use crate::levels::Levels;
 use crate::messages::Messages;
 use crate::numbers::{ByContact, Numbers};
 use crate::rows::Rows;
 use crate::sessions::Sessions;
+use crate::sleepers::Sleepers;
 use crate::wants::Wants;
 use std::alloc::{AllocError, Global};
 use sync_rules::Start;
@@ -38,6 +40,10 @@ pub(crate) struct PlainFacts {
     pub(crate) wants: Wants,
     /// The messages that may have a step.
     pub(crate) waiting: Numbers,
+    /// The others that have not ended, under each of their dependencies.
+    pub(crate) sleepers: Sleepers,
+    /// Where to look first.
+    pub(crate) hints: Hints,
     /// For each contact the messages that may wait for our acknowledgement.
     pub(crate) owed: ByContact,
     /// For each contact the number below which no message is due to it for a while.
@@ -61,6 +67,8 @@ impl PlainFacts {
             rows: Rows::new(alloc),
             wants: Wants::new(alloc),
             waiting: Numbers::new(alloc),
+            sleepers: Sleepers::new(alloc),
+            hints: Hints::new(alloc),
             owed: ByContact::new(alloc)?,
             cursors: Cursors::new(alloc)?,
         })

@@ -96,6 +96,13 @@ impl Messages {
         &self.lines[n as usize]
     }
 
+    /// The numbers of the delivered messages, in the order of their delivery.
+    pub(crate) fn delivered(&self) -> &[u32]
+        ensures { result.now ≡ self.now.delivered }
+    {
+        self.delivered.as_slice()
+    }
+
     /// The line of this arrival number, where there is one.
     pub(crate) fn get(&self, n: u32) -> Option<&Line>
         ensures { option_copied result ≡ slice_get self.now.lines n }

@@ -39,8 +39,8 @@ fn tell(alloc: Global, played: &Played) -> Result<Report, AllocError>
     Ok(Report {
         batches: played.batches,
         entries: played.entries,
-        good: round_count(alloc, messages, true)?,
-        bad: round_count(alloc, messages, false)?,
+        good: round_count(alloc, messages, true, messages.delivered())?,
+        bad: round_count(alloc, messages, false, played.facts.hints.refused())?,
         settled: is_settled(&played.facts),
     })
 }

@@ -135,14 +135,39 @@ fn mark_more(messages: &Messages, of_good: bool, marks: &mut [bool], count: u32)
     now
 }
 
-// Marks messages until no further one is to be marked, and answers how many there are.
-fn mark_all(messages: &Messages, of_good: bool, marks: &mut [bool]) -> u32
+// Marks the message of this number where it is one more, behind so many, and answers how many there
+// are now.
+fn mark_next(messages: &Messages, of_good: bool, marks: &mut [bool], count: u32, n: u32) -> u32
+    requires { AreMarked of_good messages.now.lines marks.old count }
+    ensures { AreMarked of_good messages.now.lines marks.new result }
+{
+    if n < messages.len() && mark_one(messages, of_good, marks, n) {
+        return count + 1;
+    }
+    count
+}
+
+// Marks those of these messages that are next, in this order, and answers how many there are.
+fn mark_listed(messages: &Messages, of_good: bool, marks: &mut [bool], order: &[u32]) -> u32
+    requires { AreMarked of_good messages.now.lines marks.old 0 }
+    ensures { AreMarked of_good messages.now.lines marks.new result }
+{
+    let mut count = 0;
+    for n in order {
+        count = mark_next(messages, of_good, marks, count, *n);
+    }
+    count
+}
+
+// Marks messages, first in this order, until no further one is to be marked, and answers how many
+// there are.
+fn mark_all(messages: &Messages, of_good: bool, marks: &mut [bool], order: &[u32]) -> u32
     requires lines { AreLines messages.now }
     requires marked { AreMarked of_good messages.now.lines marks.old 0 }
     ensures marked { AreMarked of_good messages.now.lines marks.new result }
     ensures stable { AreStable of_good messages.now.lines marks.new }
 {
-    let mut count = 0;
+    let mut count = mark_listed(messages, of_good, marks, order);
     'rounds: loop {
         let now = mark_more(messages, of_good, marks, count);
         if now == count {
@@ -152,11 +177,13 @@ fn mark_all(messages: &Messages, of_good: bool, marks: &mut [bool]) -> u32
     }
 }
 
-/// How many messages are good, or else how many are bad. It fails only for want of memory.
+/// How many messages are good, or else how many are bad. They are counted in one round where each of
+/// them stands in this order behind those by which it is so. It fails only for want of memory.
 pub(crate) fn round_count(
     alloc: Global,
     messages: &Messages,
     of_good: bool,
+    order: &[u32],
 ) -> Result<u32, AllocError>
     requires { AreLines messages.now }
     ensures { IfOk result (λ n. (g : Graph) → IsGraphOfLines g messages.now.lines
@@ -164,5 +191,5 @@ pub(crate) fn round_count(
 {
     let mut marks = Vec::new(alloc);
     marks.resize(messages.len() as usize, false)?;
-    Ok(mark_all(messages, of_good, marks.as_mut_slice()))
+    Ok(mark_all(messages, of_good, marks.as_mut_slice(), order))
 }

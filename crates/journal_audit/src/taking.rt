@@ -20,6 +20,7 @@ use crate::groups::Groups;
 use crate::messages::Line;
 use crate::numbers::{ByContact, Numbers};
 use crate::rows::RowChange;
+use crate::sleeping::{lay_down, wake};
 use batch_tests::id_known;
 use std::alloc::{AllocError, Global};
 use sync_ids::{GroupDef, GroupId, Message, MessageId};
@@ -146,6 +147,7 @@ impl PlainFacts {
         let answer = judge(alloc, &self.groups, clients, &message)?;
         let n = self.messages.len();
         self.waiting.add(n)?;
+        self.hints.add()?;
         self.wants.hold(&id);
         self.messages.hold(Line {
             id,
@@ -156,6 +158,13 @@ impl PlainFacts {
             invalid: false,
             delivered: false,
         })?;
+        wake(
+            &self.messages,
+            self.sleepers.under(&id),
+            &mut self.hints,
+            &mut self.waiting,
+            &id,
+        )?;
         Ok(id)
     }
 
@@ -182,7 +191,7 @@ impl PlainFacts {
     }
 
     // A message is judged.
-    fn take_judged(&mut self, id: &MessageId) -> Result<(), AllocError>
+    fn take_judged(&mut self, alloc: Global, id: &MessageId) -> Result<(), AllocError>
         requires sound { IsPlainSound self.old }
         requires fits { is_held (facts_of self.old).held id.now ≡ true }
         ensures { OnOk result (BecomesFacts self.old self.new (rest_after (facts_of self.old)
@@ -192,6 +201,13 @@ impl PlainFacts {
             unreachable!();
         };
         self.messages.judge(n);
+        lay_down(
+            alloc,
+            &self.messages,
+            &mut self.sleepers,
+            &mut self.waiting,
+            n,
+        )?;
         Ok(())
     }
 
@@ -206,7 +222,15 @@ impl PlainFacts {
             unreachable!();
         };
         stop_waiting(&mut self.waiting, self.messages.line(n), n);
+        self.hints.note_invalid(n)?;
         self.messages.refuse(n);
+        wake(
+            &self.messages,
+            self.sleepers.under(id),
+            &mut self.hints,
+            &mut self.waiting,
+            id,
+        )?;
         Ok(())
     }
 
@@ -222,6 +246,13 @@ impl PlainFacts {
         };
         stop_waiting(&mut self.waiting, self.messages.line(n), n);
         self.messages.deliver(n)?;
+        wake(
+            &self.messages,
+            self.sleepers.under(id),
+            &mut self.hints,
+            &mut self.waiting,
+            id,
+        )?;
         Ok(())
     }
 
@@ -436,7 +467,7 @@ impl PlainFacts {
             Entry::Take(session, taken) => self.take_record(session, taken),
             Entry::Author(m) => self.take_held(alloc, clients, known, Origin::Author, m),
             Entry::Arrive(session, m) => self.take_arrival(alloc, clients, known, session, m),
-            Entry::Judged(id) => self.take_judged(&id),
+            Entry::Judged(id) => self.take_judged(alloc, &id),
             Entry::Deliver(id) => self.take_delivered(&id),
             Entry::Invalid(id) => self.take_invalid(&id),
             Entry::Again(session, id) => self.take_row(session, id, &RowChange::Heard),

@@ -3,7 +3,7 @@ use Rattle.outside.specs.Files.{read_files}
 use Rattle.journal_audit.specs.declared.fault.AuditFault.{AuditFault}
 use Rattle.journal_audit.specs.declared.report.Report.{Report}
 use Rattle.journal_audit.specs.Answers.{IsAudited}
-use Rattle.journal_audit.proofs.Audits.{audited, err_is, untaken}
+use Rattle.journal_audit.proofs.Audits.{err_is, untaken}
 use Rattle.journal_audit.proofs.auditing.audit_read.Goals as goal
 
 pub returns-in_err-taken-clause-answer : goal.returns-in_err-taken-clause-answer

@@ -1,4 +1,3 @@
-use Rattle.std.proofs.Common.{◌≡◌}
 use Rattle.sync_rules.specs.Sessions.{first_id, ids_where}
 use Rattle.journal_audit.specs.Lines.{held_in}
 use Rattle.journal_audit.specs.Looks.{is_sent, seen_of}

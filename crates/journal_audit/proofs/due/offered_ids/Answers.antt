@@ -1,4 +1,4 @@
-use Rattle.std.proofs.Common.{List, ℕ, ap, drop, length, take, ◌∙◌, ◌≤◌, arith}
+use Rattle.std.proofs.Common.{List, ap, drop, length, take, ◌∙◌, ◌≤◌, arith}
 use Rattle.sync_ids.specs.declared.lists.TheConstants.{MAX_IDS}
 use Rattle.sync_rules.specs.Facts.{Id}
 use Rattle.sync_rules.specs.Sessions.{ids_where}

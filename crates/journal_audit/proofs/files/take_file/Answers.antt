@@ -1,5 +1,5 @@
-use Rattle.std.proofs.Common.{Result, sym, ap, subst, ◌∙◌}
-use Rattle.outside.specs.Files.{file_of, read_files}
+use Rattle.std.proofs.Common.{Result, sym, subst, ◌∙◌}
+use Rattle.outside.specs.Files.{read_files}
 use Rattle.journal_audit.specs.declared.fault.AuditFault.{AuditFault}
 use Rattle.journal_audit.specs.declared.files.Taken.{Taken}
 use Rattle.journal_audit.specs.Answers.{IsFileTaken}

@@ -1,5 +1,4 @@
-use Rattle.std.proofs.Common.{IfOk}
-use Rattle.journal_audit.proofs.Passed.{legal_passed, plays_passed}
+use Rattle.journal_audit.proofs.Passed.{legal_passed}
 use Rattle.journal_audit.proofs.playing.admit_other.Goals as goal
 
 pub admit_passed-requires-clause-legal : goal.admit_passed-requires-clause-legal

@@ -14,7 +14,7 @@ returns c =
     record {
       facts = ap (λ (rows : Rows). with_rows (facts_of p) rows) c.in_ok-row.ensures.rows;
       sound =
-          sound_row p.contacts p.groups p.levels p.messages p.rows p.waiting p.owed p.cursors c.requires.sound c.change.new.self c.mark_owed.new.owed c.fall_back.new.self
+          sound_row p.contacts p.groups p.levels p.messages p.rows p.waiting p.sleepers p.owed p.cursors c.requires.sound c.change.new.self c.mark_owed.new.owed c.fall_back.new.self
           c.args.contact c.args.id c.in-Some.n (changed_by c.args.change.now) row c.in-Some.ensures.found c.in_ok-row.ensures.rows c.in_ok-row.ensures.row
           (λ x m. c.in_ok-mark_owed.ensures x m
           ∙ ap (λ (r : Row). cond (nat_eq x c.args.contact && nat_eq m c.in-Some.n) r.owed (has_for p.owed x m)) c.row.view_is)

@@ -1,6 +1,5 @@
-use Rattle.std.proofs.Common.{◌≡◌, ℕ, [], drop, length, sym, ap, ◌∙◌}
+use Rattle.std.proofs.Common.{drop}
 use Rattle.std.proofs.lemmas.List.{drop_all}
-use Rattle.sync_rules.specs.Facts.{Id}
 use Rattle.journal_audit.specs.Rows.{changed_by}
 use Rattle.journal_audit.proofs.Took.{next_held, rows_begun, rows_done, rows_more}
 use Rattle.journal_audit.proofs.facts.PlainFacts.change_rows.Goals as goal

@@ -1,4 +1,4 @@
-use Rattle.std.proofs.Common.{◌≡◌, ℕ, ◌+◌, ◌≤◌, length, refl, sym, ◌∙◌, arith}
+use Rattle.std.proofs.Common.{◌≡◌, ◌+◌, ◌≤◌, length, refl, arith}
 use Rattle.journal_audit.specs.Numbers.{from_of}
 use Rattle.journal_audit.proofs.Passed.{cursor_set, one_more}
 use Rattle.journal_audit.proofs.facts.PlainFacts.pass.Goals as goal

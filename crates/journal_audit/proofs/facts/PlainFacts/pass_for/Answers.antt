@@ -1,4 +1,3 @@
-use Rattle.std.proofs.Common.{◌≡◌}
 use Rattle.journal_audit.proofs.Passed.{passed_then}
 use Rattle.journal_audit.proofs.facts.PlainFacts.pass_for.Goals as goal
 

@@ -10,7 +10,7 @@ returns c =
     record {
       facts = ap (λ (levels : LevelMap). facts_of (record p { levels = levels })) c.in_ok-set.ensures;
       sound =
-          sound_level p.contacts p.groups p.levels p.messages p.rows p.waiting p.owed p.cursors c.requires.sound c.args.contact c.args.group c.args.level c.set.new.self
+          sound_level p.contacts p.groups p.levels p.messages p.rows p.waiting p.sleepers p.owed p.cursors c.requires.sound c.args.contact c.args.group c.args.level c.set.new.self
           c.clear.new.self c.requires.fits.0 c.requires.fits.1 c.in_ok-set.ensures c.clear.ensures.from c.clear.ensures.until;
       knows = λ clients knows. knows;
     }

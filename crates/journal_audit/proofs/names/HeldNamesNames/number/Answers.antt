@@ -1,4 +1,4 @@
-use Rattle.std.proofs.Common.{◌≡◌, ap, ◌∙◌, is_some}
+use Rattle.std.proofs.Common.{ap, ◌∙◌, is_some}
 use Rattle.entry_codec.specs.Naming.{place_in}
 use Rattle.entry_codec.specs.Payloads.{names_of}
 use Rattle.sync_rules.specs.Lists.{is_among}

@@ -1,8 +1,7 @@
-use Rattle.std.proofs.Common.{◌≡◌, ℕ, ◌+◌, ◌∙◌, rules}
+use Rattle.std.proofs.Common.{◌≡◌, ◌+◌, ◌∙◌, rules}
 use Rattle.std.specs.Cmp.{nat_cmp_total}
 use Rattle.std.specs.FinMap as fin_map
 use Rattle.sync_rules.specs.Facts.{takes_of}
-use Rattle.journal_audit.specs.Sessions.{SessionsValue}
 use Rattle.journal_audit.proofs.Maps.{map_put}
 use Rattle.journal_audit.proofs.sessions.Sessions.take.Goals as goal
 
