@@ -222,9 +222,9 @@ def stopped():
     say('got 0 ' + ids_record(0, [mine]).hex(), 'idle 0 3', 'clock 1000')
     say('stops sync 9 2 0 interactive 30000 unix:p')
 
-    case('a run that hears an offer of 1,536 unknown ids twice is stopped')
+    case('a run that hears an offer of 200 unknown ids twice is stopped')
     one_contact()
-    say('nonce ' + '04' * 16, *2 * ['got 0 ' + ids_record(2, some_ids(0, 1_536)).hex()], 'idle 0 3')
+    say('nonce ' + '04' * 16, *2 * ['got 0 ' + ids_record(2, some_ids(0, 200)).hex()], 'idle 0 3')
     say('stops sync 4 2 0 interactive 1000 tcp:x')
 
     case('a run that hears a message on two links with two contacts is stopped')
