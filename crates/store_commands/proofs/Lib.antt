@@ -14,3 +14,4 @@ pub mod Stood
 mod Migrates
 pub mod Compacts
 pub mod Errands
+mod Alone
