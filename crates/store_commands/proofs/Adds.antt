@@ -1,7 +1,7 @@
 -- Settling, a batch, and settling again, as moments and as journals.
 use Rattle.std.proofs.Common.{◌≡◌, ◌≢◌, ℕ, ◌+◌, ◌<◌, ◌≤◌, false, List, [], ◌∷◌, ◌++◌, refl, sym, ap}
 use Rattle.std.proofs.Common.{◌∙◌, subst, inl, inr, append_assoc, append-nil, arith, Some, Result}
-use Rattle.std.proofs.Common.{Ok, Err}
+use Rattle.std.proofs.Common.{Ok, Err, OnOk}
 use Rattle.outside.specs.declared.limits.TheConstants.{MAX_JOURNAL}
 use Rattle.outside.specs.Faults.{CountRose}
 use Rattle.outside.specs.Files.{Two, File}
@@ -26,14 +26,16 @@ use Rattle.sync_store.specs.Store.{StoreValue, format_meant, written_in}
 use Rattle.sync_store.specs.Fitting.{FitsFiles}
 use Rattle.sync_store.specs.Moments.{IsBetween, JournalMoment}
 use Rattle.sync_store.specs.Runs.{AddsBatch, HasExtended, RunsBy}
+use Rattle.sync_store.specs.Settling.{AreFilled}
 use Rattle.sync_words.specs.declared.outcome.Outcome.{Outcome}
 use Rattle.sync_words.specs.declared.outcome.Outcome.TheVariants as outcome
 use Rattle.store_commands.specs.declared.commit.Settling.{Settling}
 use Rattle.store_commands.specs.declared.commit.Settling.TheVariants as settling
 use Rattle.store_commands.specs.Commit.{AddedSo, AddsAs, ExtendsBy, ExtendsEnds, ExtendsTold}
-use Rattle.store_commands.specs.Commit.{GoesOnByBatch, IsBatchAndSettling, MayFollow, SettledAnew}
-use Rattle.store_commands.specs.Commit.{SettlesAnew, SettlesBehind, StandsSynced, needed_by}
-use Rattle.store_commands.proofs.Stood.{fits_synced, last_here, spent_here}
+use Rattle.store_commands.specs.Commit.{GoesOnByBatch, IsBatchAndSettling, IsMoved, MayFollow}
+use Rattle.store_commands.specs.Commit.{SettledAnew, SettlesAnew, SettlesBehind, StandsSynced}
+use Rattle.store_commands.specs.Commit.{needed_by, next_file, next_generation}
+use Rattle.store_commands.proofs.Stood.{fits_synced, last_here, moved_here, spent_here}
 
 -- ---- longer journals
 
@@ -184,6 +186,7 @@ settles_only clients o o1 s s1 batch asked came two j files fits still settled =
       not_settled_ends clients asked j batch s s1 came two two' fits (λ is.
       same_told o o1 two two' (still is) files files') settled.answer;
   spent = λ last. tt;
+  moved = tt;
 }
 
 -- ---- settling and a batch
@@ -200,7 +203,7 @@ weighed s j batch ends same short =
 
 adds_ends : (clients : Meaning) (asked : Settling) (j first more : List (List Entry))
     (batch : List Entry) (s1 s2 : StoreValue) (two two1 two2 : Two File)
-    (result : Result (Unit {0}) Outcome)
+    (result : Result (Unit {0}) Outcome) → AreFilled first
     → s2.format ≡ s1.format → written_in s1 ≡ kind.Short → AllSettling clients (facts j) first
     → IsSettled clients s1.state.facts → s1.limit ≡ MAX_JOURNAL
     → FitsFiles clients s1 (j ++ first) two1
@@ -208,8 +211,8 @@ adds_ends : (clients : Meaning) (asked : Settling) (j first more : List (List En
     → (s2.closed ≡ false → (whole : List (List Entry)) × (whole ≡ (j ++ first) ++ more)
     × FitsFiles clients s2 whole two2)
     → ExtendsEnds clients asked j batch result two two2
-adds_ends clients asked j first more batch s1 s2 two two1 two2 (Ok u) format short settles settled
-    limit fits answer ends =
+adds_ends clients asked j first more batch s1 s2 two two1 two2 (Ok u) filled format short
+    settles settled limit fits answer ends =
     let at = ends answer.0 in
     let whole = answer.2 in
     let f : s1.state.facts ≡ after_batches (facts j) first = sym fits.facts_are
@@ -219,6 +222,7 @@ adds_ends clients asked j first more batch s1 s2 two two1 two2 (Ok u) format sho
       first = first;
       settles = settles;
       settled = subst (IsSettled clients) f settled;
+      filled = filled;
       has = record {
         rest = whole.rest;
         roomy =
@@ -233,14 +237,15 @@ adds_ends clients asked j first more batch s1 s2 two two1 two2 (Ok u) format sho
             (fits_synced clients s2 at.0 two2 at.2 (ap format_meant format ∙ short));
       };
     }
-adds_ends clients asked j first more batch s1 s2 two two1 two2 (Err outcome.Full) format short
-    settles settled limit fits answer ends =
+adds_ends clients asked j first more batch s1 s2 two two1 two2 (Err outcome.Full) filled
+    format short settles settled limit fits answer ends =
     let at = ends answer.0 in
     let over : MAX_JOURNAL < needed s1 batch = subst (λ n. n < needed s1 batch) limit answer.1 in
     inl (record {
       first = first;
       settles = settles;
       settled = subst (IsSettled clients) (sym fits.facts_are ∙ facts-append j first) settled;
+      filled = filled;
       has = record {
         stands =
             subst (StandsSynced clients two2)
@@ -252,12 +257,30 @@ adds_ends clients asked j first more batch s1 s2 two two1 two2 (Err outcome.Full
             (weighed s1 (j ++ first) batch fits.end_is (sym fits.facts_are) short) over;
       };
     })
-adds_ends clients asked j first more batch s1 s2 two two1 two2 (Err outcome.Memory) format short
-    settles settled limit fits answer ends = tt
-adds_ends clients asked j first more batch s1 s2 two two1 two2 (Err outcome.DiskFault) format short
-    settles settled limit fits answer ends = tt
-adds_ends clients asked j first more batch s1 s2 two two1 two2 (Err _) format short settles settled
-    limit fits answer ends = absurd answer
+adds_ends clients asked j first more batch s1 s2 two two1 two2 (Err outcome.Memory) filled
+    format short settles settled limit fits answer ends = tt
+adds_ends clients asked j first more batch s1 s2 two two1 two2 (Err outcome.DiskFault) filled
+    format short settles settled limit fits answer ends = tt
+adds_ends clients asked j first more batch s1 s2 two two1 two2 (Err _) filled format short
+    settles settled limit fits answer ends = absurd answer
+
+-- and where the journal is then
+adds_moved : (clients : Meaning) (which : Settling) (s s1 s2 : StoreValue) (batch : List Entry)
+    (more j1 j : List (List Entry)) (o2 : Outside) (two : Two File)
+    (result : Result (Unit {0}) Outcome) → FitsFiles clients s j two → written_in s1 ≡ kind.Short
+    → s1.generation ≡ next_generation s → s1.file ≡ next_file s → s2.file ≡ s1.file
+    → s2.format ≡ s1.format → s2.generation ≡ s1.generation
+    → AddedSo clients which s1 s2 batch more result
+    → (s2.closed ≡ false → (two2 : Two File) → o2.files ≡ Some two2
+    → (whole : List (List Entry)) × (whole ≡ j1 ++ more) × FitsFiles clients s2 whole two2)
+    → OnOk result ((two' : Two File) → o2.files ≡ Some two' → IsMoved 0 (read_files two) two')
+adds_moved clients which s s1 s2 batch more j1 j o2 two (Ok u) fits short taken went file format
+    generation answer ends = λ two' files'.
+    let at = ends answer.0 two' files' in
+    moved_here clients s s2 j at.0 two two' 0 fits at.2 (ap format_meant format ∙ short)
+    (file ∙ went) (omega (arith, generation, taken))
+adds_moved clients which s s1 s2 batch more j1 j o2 two (Err e) fits short taken went file format
+    generation answer ends = tt
 
 pub adds : (clients : Meaning) (asked which : Settling) (o o1 o2 : Outside) (s s1 s2 : StoreValue)
     (batch : List Entry) (u : Unit {0}) (result : Result (Unit {0}) Outcome) (two : Two File)
@@ -286,11 +309,15 @@ adds clients asked which o o1 o2 s s1 s2 batch u result two j same files fits li
           second.moments));
       ends = λ two' files'.
           adds_ends clients asked j first added.more batch s1 s2 two told1.0 two' result
-          added.format settled.answer.2 settles settled.answer.1 (settled.comes.limit
+          settled.filled added.format settled.answer.2 settles settled.answer.1 (settled.comes.limit
           ∙ limited) fits1
           (subst (λ (w : Settling). AddedSo clients w s1 s2 batch added.more result) (sym same)
           added.answer) (λ still_open. second.ends still_open two' files');
       spent = λ last. absurd (settled.answer.3 (spent_here clients s j two fits last));
+      moved =
+          adds_moved clients which s s1 s2 batch added.more (j ++ first) j o2 two result fits
+          settled.answer.2 settled.answer.4 settled.answer.5 added.file added.format
+          added.generation added.answer second.ends;
     }
 
 -- what follows a settled journal follows the facts that settling came to
@@ -322,6 +349,7 @@ settled_whole clients s s' o o' batch (b ∷ rest) runs adds still some settled 
     adds.1,
     subst (IsSettled clients) (runs.facts still
         ∙ ap (λ (x : List Entry). after_batches (after_all s.state.facts x) rest) adds.0) settled,
+    adds.2,
   );
 }
 

@@ -85,6 +85,7 @@ once_map clients j P Q leads once = record {
   first = once.first;
   settles = once.settles;
   settled = once.settled;
+  filled = once.filled;
   has = leads (j ++ once.first) once.has;
 }
 
@@ -122,6 +123,7 @@ entry_printed clients settling s e o o2 out out' text batch u came is line run t
                       (λ settled. IsAdded clients settling (e ∷ []) two' settled × P (added_text e))
                       (λ settled added. (added, q)) (went.ends two' files'),
                   λ last. went.spent last,
+                  went.moved two' files',
                 )) p;
           };
     }

@@ -30,7 +30,8 @@ use Rattle.sync_words.specs.EntryTexts.{compacted_text}
 use Rattle.sync_words.specs.Outcomes.{came_to}
 use Rattle.sync_words.specs.declared.outcome.Outcome.{Outcome}
 use Rattle.sync_words.specs.declared.outcome.Outcome.TheVariants as outcome
-use Rattle.store_commands.specs.Commit.{ExtendsBy, OnceSettled, SettlesAnew, next_generation}
+use Rattle.store_commands.specs.Commit.{ExtendsBy, IsMoved, OnceSettled, SettlesAnew}
+use Rattle.store_commands.specs.Commit.{next_generation}
 use Rattle.store_commands.specs.Compact.{AreFilesCompacted, CompactsAs, GoesBrief, HasCompacted}
 use Rattle.store_commands.specs.Compact.{IsUncompacted, LacksGeneration, MakesBrief, brief_len}
 use Rattle.store_commands.specs.Compact.{compacting}
@@ -43,7 +44,9 @@ use Rattle.store_commands.proofs.Passing.{passed}
 use Rattle.store_commands.proofs.Working.{failed_by, printed_by, printed_ends, prints_plain}
 use Rattle.store_commands.proofs.Working.{settling_moments, work_unsettled, worked_loaded}
 use Rattle.store_commands.proofs.Working.{worked_none}
-use Rattle.store_commands.proofs.Stood.{fits_synced, lacked_here, lacks_here}
+use Rattle.store_commands.proofs.Alone.{stands_alone}
+use Rattle.store_commands.proofs.Stood.{fits_known, fits_synced, lacked_here, lacks_here}
+use Rattle.store_commands.proofs.Stood.{moved_here}
 
 -- ---- settling
 
@@ -108,6 +111,7 @@ module _ (clients : Meaning) (s s1 : StoreValue) (o o1 : Outside) (u : Unit {0})
         subst (IsSettled clients) (settled.comes.facts
         ∙ ap (λ (g : Facts). after_batches g settled.more) (sym fits.facts_are))
         settled.answer.1;
+    filled = settled.filled;
     has = has;
   }
 
@@ -169,12 +173,37 @@ brief_whole law clients s s1 s2 o o1 o2 u v run settled compacted limited two fi
       roomy =
           subst (λ (n : ℕ). n ≤ MAX_JOURNAL) sum
           (subst (λ (n : ℕ). compacted_len clients s1.state.facts ≤ n) limit roomy);
-      stands = fits_synced clients s2 (brief (j ++ settled.more)) two2 fits2 short;
+      stands = record {
+        short = record {
+          file = s2.file;
+          found = fits2.file_is;
+          is = fits_known clients s2 (brief (j ++ settled.more)) two2 fits2 ∙ ap Some short;
+        };
+        stands_for = fits2.stands_for;
+        first_settled = fits2.first_settled;
+        second_settled = fits2.second_settled;
+      };
+      old = stands_alone clients s1 s2 (j ++ settled.more) told1.0 two2 o1 o2 told1.1 files2 fits1
+          compacted.own compacted.answer.file;
       printed =
           subst (λ (n : ℕ). P (compacted_text (journal_end kind.Short (j ++ settled.more)) n))
           new_is
           (subst (λ (n : ℕ). P (compacted_text n new)) old_is printed);
     })
+
+-- and where it is
+brief_moved : (clients : Meaning) (s s1 s2 : StoreValue) (o o1 o2 : Outside) (u v : Unit {0})
+    → DiskRun o o1 → SettlesAnew clients s s1 o o1 (Ok u) → CompactsAs clients s1 s2 o1 o2 (Ok v)
+    → (two : Two File) → o.files ≡ Some two → (j : List (List Entry)) → FitsFiles clients s j two
+    → (two2 : Two File) → o2.files ≡ Some two2 → IsMoved 1 (read_files two) two2
+brief_moved clients s s1 s2 o o1 o2 u v run settled compacted two files j fits two2 files2 =
+    let told1 = told_on o o1 two run.same_told files in
+    let fits1 = settled_fits clients o o1 s s1 u two told1.0 j files told1.1 fits settled in
+    let at = (compacted.leads told1.0 told1.1 (j ++ settled.more) fits1).ends
+    compacted.answer.closed two2 files2 in
+    moved_here clients s s2 j at.0 two two2 1 fits at.2 (ap format_meant compacted.answer.format)
+    (compacted.answer.file ∙ ap (λ (k : ℕ). 1 - k) settled.answer.5)
+    (omega (arith, compacted.answer.generation, settled.answer.4))
 
 -- there was no room for it, or no generation
 brief_full : BriefIsByFacts → (clients : Meaning) (s s1 s2 : StoreValue) (o o1 o2 : Outside)
@@ -199,6 +228,10 @@ brief_full law clients s s1 s2 o o1 o2 u run settled compacted limited two files
     (record {
       stands = fits_synced clients s2 (j ++ settled.more) two2 fits2
           (ap (λ (x : StoreValue). written_in x) same ∙ settled.answer.2);
+      moved = moved_here clients s s2 j (j ++ settled.more) two two2 0 fits fits2
+          (ap (λ (x : StoreValue). written_in x) same ∙ settled.answer.2)
+          (ap (λ (x : StoreValue). x.file) same ∙ settled.answer.5)
+          (omega (arith, ap (λ (x : StoreValue). x.generation) same, settled.answer.4));
       over = elim compacted.answer.0 [
         | inl last ↦ inr (had_none clients s s1 o o1 u settled two j fits last)
         | inr past
@@ -271,6 +304,8 @@ brief_printed law clients s s1 s2 o o1 o2 u v out out' came old new limited run 
               brief_whole law clients s s1 s2 o o1 o2 u v run settled compacted limited two files j
                   fits old new first last P q two2 files2,
               λ lacks. had_generation clients s s1 o o1 u settled two j fits next lacks,
+              brief_moved clients s s1 s2 o o1 o2 u v run settled compacted two files j fits two2
+                  files2,
             )) p;
       };
     }

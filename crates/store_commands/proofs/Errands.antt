@@ -25,14 +25,14 @@ use Rattle.sync_words.specs.declared.outcome.Outcome.{Outcome}
 use Rattle.sync_words.specs.declared.outcome.Outcome.TheVariants as outcome
 use Rattle.sync_words.specs.Outcomes.{came_to}
 use Rattle.sync_store.specs.Rooms.{AreRoomy}
-use Rattle.store_commands.specs.Commit.{ExtendsBy, OnceSettled, SettlesAnew, needed_by}
+use Rattle.store_commands.specs.Commit.{ExtendsBy, IsMoved, OnceSettled, SettlesAnew, needed_by}
 use Rattle.store_commands.specs.Errands.{Errand, ErrandOn, HasErrandBehind, IsErrandCutShort, IsRun}
 use Rattle.store_commands.specs.Errands.{running}
 use Rattle.store_commands.specs.Running.{DoesErrand, PrintsOut, RunsErrand}
 use Rattle.store_commands.specs.Works.{WorkEnds}
 use Rattle.store_commands.proofs.Adds.{caused_later, sent_before, settles_from, weighed}
 use Rattle.store_commands.proofs.Passing.{passed}
-use Rattle.store_commands.proofs.Stood.{fits_synced, spent_here}
+use Rattle.store_commands.proofs.Stood.{fits_synced, moved_here, spent_here}
 use Rattle.store_commands.proofs.Working.{failed_by, printed_by, printed_ends, settling_moments}
 use Rattle.store_commands.proofs.Working.{work_unsettled}
 
@@ -75,7 +75,13 @@ module _ (clients : Meaning) (errand : Errand) (s s1 s2 : StoreValue) (o o1 o2 :
 
   -- what is so of the settled journal is so once the journal is settled
   once : (P : List (List Entry) → Type 0) → P (j ++ settled.more) → OnceSettled clients j P
-  once P has = record { first = settled.more; settles = settles; settled = is_settled; has = has }
+  once P has = record {
+    first = settled.more;
+    settles = settles;
+    settled = is_settled;
+    filled = settled.filled;
+    has = has;
+  }
 
   -- the journal that the disk fits once it is settled
   settled_fits : (two1 : Two File) → o1.files ≡ Some two1 → FitsFiles clients s1
@@ -120,6 +126,14 @@ module _ (clients : Meaning) (errand : Errand) (s s1 s2 : StoreValue) (o o1 o2 :
   -- the store is in format 2 at the end
   last_short : written_in s2 ≡ kind.Short
   last_short = ap format_meant does.comes.runs.format ∙ settled.answer.2
+
+  -- the journal was moved by a migration alone
+  pub errand_moved : s2.closed ≡ false → (two2 : Two File) → o2.files ≡ Some two2
+      → IsMoved 0 (read_files two) two2
+  errand_moved still two2 files2 =
+      moved_here clients s s2 j ((j ++ settled.more) ++ does.more) two two2 0 fits
+      (last_fits still two2 files2) last_short (does.comes.runs.file ∙ settled.answer.5)
+      (omega (arith, does.comes.runs.generation, settled.answer.4))
 
   -- there was room for what was done
   roomy : AreRoomy kind.Short MAX_JOURNAL (j ++ settled.more) does.more
@@ -235,6 +249,8 @@ errand_printed clients errand s s1 s2 o o1 o2 out out' u v text came limited run
               errand_run clients errand s s1 s2 o o1 o2 u (Ok v) run settled does limited two files
                   j fits does.answer.0 does.answer.1 does.answer.2 text is P p two2 files2,
               λ last. settled.answer.3 (spent_here clients s j two fits last),
+              errand_moved clients errand s s1 s2 o o1 o2 u (Ok v) run settled does limited two
+                  files j fits does.answer.0 two2 files2,
             )) printed;
       };
     }

@@ -15,3 +15,4 @@ pub mod Stood
 mod Migrates
 pub mod Compacts
 pub mod Errands
+mod Alone

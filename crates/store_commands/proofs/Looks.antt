@@ -1,6 +1,7 @@
 -- A store that was loaded and shown.
 use Rattle.std.proofs.Common.{◌≡◌, ◌∙◌, ap, refl, subst, sym, inl, inr, Ok, Err, Some}
-use Rattle.outside.specs.Files.{Two, File, read_files}
+use Rattle.outside.specs.Disk.{RelatesTold}
+use Rattle.outside.specs.Files.{File, SyncsBoth, Two, read_files}
 use Rattle.outside.specs.Outside.{Outside, DiskRun}
 use Rattle.outside.specs.Streams.{Stream, IsIdle}
 use Rattle.sync_rules.specs.Clients.{Meaning}
@@ -21,13 +22,15 @@ module _ (clients : Meaning) (shown : Facts → Showing) (old new : Outside) (ou
       → ((two : Two File) → old.files ≡ Some two
       → LeavesFilesSo (LoadKeeps (Ok s) two) two old new)
       → ((two : Two File) → old.files ≡ Some two → HasFacts (stands clients (read_files two)) s)
+      → RelatesTold SyncsBoth old.files new.files
       → (what : Showing) → shown s.state.facts ≡ what → PrintsShowing what out out' came
       → HasLooked clients shown old new out out' came
-  looked_at s run rests loaded (shows text) is printed = record {
+  looked_at s run rests loaded synced (shows text) is printed = record {
     run = run;
     did = inr (record {
       text = text;
       printed = printed;
+      synced = synced;
       told = λ two told.
           let has = loaded two told in
           record {
@@ -36,7 +39,7 @@ module _ (clients : Meaning) (shown : Facts → Showing) (old new : Outside) (ou
           };
     });
   }
-  looked_at s run rests loaded (denies why) is printed =
+  looked_at s run rests loaded synced (denies why) is printed =
       subst (HasLooked clients shown old new out out') (sym printed.0) (record {
         run = run;
         did =
@@ -49,10 +52,11 @@ module _ (clients : Meaning) (shown : Facts → Showing) (old new : Outside) (ou
       → ((two : Two File) → old.files ≡ Some two
       → LeavesFilesSo (LoadKeeps (Ok s) two) two old new)
       → ((two : Two File) → old.files ≡ Some two → HasFacts (stands clients (read_files two)) s)
+      → RelatesTold SyncsBoth old.files new.files
       → PrintsShowing (shown s.state.facts) out out' came
       → HasLooked clients shown old new out out' came
-  looked s run rests loaded printed =
-      looked_at s run rests loaded (shown s.state.facts) refl printed
+  looked s run rests loaded synced printed =
+      looked_at s run rests loaded synced (shown s.state.facts) refl printed
 
   -- none was loaded
   pub looked_not : DiskRun old new

@@ -15,7 +15,7 @@ use Rattle.sync_store.proofs.Runs.{leads_both}
 use Rattle.sync_words.specs.declared.outcome.Outcome.{Outcome}
 use Rattle.sync_words.specs.declared.outcome.Outcome.TheVariants as outcome
 use Rattle.store_commands.specs.Commit.{ComesAnew, MigratedBy, MigratesAs, SettledAnew, SettledBy}
-use Rattle.store_commands.specs.Commit.{SettlesAs, short_generation}
+use Rattle.store_commands.specs.Commit.{SettlesAs, short_file, short_generation}
 
 -- ---- a migration
 
@@ -58,12 +58,14 @@ migrated_ok s s' u still (inl stays) = (
   not_spent s stays.0,
   ap (λ (v : StoreValue). v.generation) stays.1
       ∙ ap (λ (f : Format). short_generation f s.generation) (sym stays.0),
+  ap (λ (v : StoreValue). v.file) stays.1 ∙ ap (λ (f : Format). short_file f s.file) (sym stays.0),
 )
 migrated_ok s s' u still (inr moves) = (
   moves.closed,
   ap format_meant moves.format,
   λ spent. omega (arith, moves.was.generation, spent.last),
   moves.generation ∙ ap (λ (f : Format). short_generation f s.generation) (sym moves.was.whole),
+  moves.file ∙ ap (λ (f : Format). short_file f s.file) (sym moves.was.whole),
 )
 
 -- ---- and settling behind it
@@ -86,12 +88,19 @@ comes_settled clients s s1 s2 o o1 o2 r1 r2 still run migrates settles = record 
 
 pub settled_anew : (clients : Meaning) (s s1 s2 : StoreValue) (u : Unit {0})
     (r : Result (Unit {0}) Outcome) → MigratedBy s s1 (Ok u) → s2.format ≡ s1.format
-    → s2.generation ≡ s1.generation → SettledBy clients s2 r → SettledAnew clients s s2 r
-settled_anew clients s s1 s2 u (Ok v) migrated format generation settled =
-    (settled.0, settled.1, ap format_meant format ∙ migrated.1, migrated.2, generation ∙ migrated.3)
-settled_anew clients s s1 s2 u (Err outcome.Memory) migrated format generation settled = tt
-settled_anew clients s s1 s2 u (Err outcome.DiskFault) migrated format generation settled = tt
-settled_anew clients s s1 s2 u (Err _) migrated format generation settled = absurd settled
+    → s2.generation ≡ s1.generation → s2.file ≡ s1.file → SettledBy clients s2 r
+    → SettledAnew clients s s2 r
+settled_anew clients s s1 s2 u (Ok v) migrated format generation file settled = (
+  settled.0,
+  settled.1,
+  ap format_meant format ∙ migrated.1,
+  migrated.2,
+  generation ∙ migrated.3,
+  file ∙ migrated.4,
+)
+settled_anew clients s s1 s2 u (Err outcome.Memory) migrated format generation file settled = tt
+settled_anew clients s s1 s2 u (Err outcome.DiskFault) migrated format generation file settled = tt
+settled_anew clients s s1 s2 u (Err _) migrated format generation file settled = absurd settled
 
 -- settling is never full
 pub settled_unfull : (clients : Meaning) (s : StoreValue) (r : Result (Unit {0}) Outcome)

@@ -1,5 +1,5 @@
 -- The format and the generation of files that fit a store.
-use Rattle.std.proofs.Common.{◌≡◌, ℕ, zero, suc, ◌-◌, ◌^◌, ◌≤◌, List, refl, sym, ap, ◌∙◌, subst}
+use Rattle.std.proofs.Common.{◌≡◌, ℕ, zero, suc, ◌+◌, ◌-◌, ◌^◌, ◌≤◌, List, refl, sym, ap, ◌∙◌, subst}
 use Rattle.std.proofs.Common.{arith}
 use Rattle.std.specs.Prelude.{Some}
 use Rattle.outside.specs.Files.{Two, File, file_of, read_files}
@@ -12,8 +12,8 @@ use Rattle.entry_codec.specs.Naming.{format_of}
 use Rattle.sync_store.specs.Fitting.{FitsFiles}
 use Rattle.sync_store.specs.Migrations.{IsSpent}
 use Rattle.sync_store.specs.Store.{StoreValue, written_in}
-use Rattle.store_commands.specs.Commit.{HasLastGeneration, IsInFormat, StandsSynced}
-use Rattle.store_commands.specs.Commit.{next_generation, short_generation}
+use Rattle.store_commands.specs.Commit.{HasLastGeneration, IsInFormat, IsMoved, StandsSynced}
+use Rattle.store_commands.specs.Commit.{moved_file, next_file, next_generation, short_generation}
 use Rattle.store_commands.specs.Compact.{LacksGeneration}
 
 file_reads : (two : Two File) (file : ℕ) → file_of (read_files two) file ≡ (file_of two file).now
@@ -111,3 +111,25 @@ lacked_here clients s j two fits lacks =
 pub last_lacks : (files : Two (List ℕ)) → HasLastGeneration files → LacksGeneration files
 last_lacks files has =
     record { format = kind.Whole; known = has.whole; last = omega (arith, has.last) }
+
+-- ---- where the journal is
+
+-- files that fit two stores, of which the one came from the other
+pub moved_here : (clients : Meaning) (s s2 : StoreValue) (j j2 : List (List Entry))
+    (two two2 : Two File) (times : ℕ) → FitsFiles clients s j two → FitsFiles clients s2 j2 two2
+    → written_in s2 ≡ kind.Short → s2.file ≡ moved_file times (next_file s)
+    → s2.generation ≡ next_generation s + times → IsMoved times (read_files two) two2
+moved_here clients s s2 j j2 two two2 times fits fits2 short file generation = record {
+  format = written_in s;
+  known = record { file = s.file; found = fits.file_is; is = fits_known clients s j two fits };
+  now = record {
+    file = s2.file;
+    found = fits2.file_is;
+    is = fits_known clients s2 j2 two2 fits2 ∙ ap Some short;
+  };
+  file_is = file;
+  generation_is =
+      fits_generation clients s2 j2 two2 fits2 ∙ generation
+      ∙ ap (λ (n : ℕ). short_generation (written_in s) n + times)
+      (sym (fits_generation clients s j two fits));
+}

@@ -1,6 +1,6 @@
 -- What migrating a store, settling it, adding a batch to it and settling again comes to.
-use Rattle.std.specs.Prelude.{◌≡◌, ◌⊎◌, ℕ, ◌+◌, ◌-◌, ◌^◌, ◌<◌, ◌≤◌, false, List, [], ◌∷◌, ◌++◌}
-use Rattle.std.specs.Prelude.{Option, Some, Result, Ok, Err, OnOk}
+use Rattle.std.specs.Prelude.{◌≡◌, ◌⊎◌, ℕ, zero, suc, ◌+◌, ◌-◌, ◌^◌, ◌<◌, ◌≤◌, false, List, [], ◌∷◌}
+use Rattle.std.specs.Prelude.{◌++◌, Option, Some, Result, Ok, Err, OnOk}
 use Rattle.outside.specs.declared.limits.TheConstants.{MAX_JOURNAL}
 use Rattle.outside.specs.Faults.{CountRose}
 use Rattle.outside.specs.Files.{Two, File, file_of, read_files, NothingPending}
@@ -25,7 +25,7 @@ use Rattle.sync_store.specs.Ready.{IsReady}
 use Rattle.sync_store.specs.Moments.{JournalMoment}
 use Rattle.sync_store.specs.Rooms.{needed_in}
 use Rattle.sync_store.specs.Runs.{AddsBatch, LeadsBy}
-use Rattle.sync_store.specs.Settling.{ComesBy}
+use Rattle.sync_store.specs.Settling.{AreFilled, ComesBy}
 use Rattle.sync_words.specs.declared.outcome.Outcome.{Outcome}
 use Rattle.sync_words.specs.declared.outcome.Outcome.TheVariants as outcome
 use Rattle.store_commands.specs.declared.commit.Settling.{Settling}
@@ -33,12 +33,13 @@ use Rattle.store_commands.specs.declared.commit.Settling.TheVariants as settling
 
 -- ---- journals
 
--- this is so of the journal with all of its settling
+-- this is so of the journal with all of its settling, in batches of which each but the last is full
 pub record OnceSettled (clients : Meaning) (j : List (List Entry))
     (P : List (List Entry) → Type 0) : Type 0 where
   pub first : List (List Entry)
   pub settles : AllSettling clients (facts j) first
   pub settled : IsSettled clients (after_batches (facts j) first)
+  pub filled : AreFilled first
   pub has : P (j ++ first)
 
 -- this is so of it however it is settled
@@ -64,7 +65,7 @@ GoesOnByBatch clients j batch whole =
 abbrev pub SettlesBehind : Settling → Meaning → Facts → List (List Entry) → Type 0
 SettlesBehind settling.Before clients f rest = rest ≡ []
 SettlesBehind settling.BeforeAndAfter clients f rest =
-    AllSettling clients f rest × IsSettled clients (after_batches f rest)
+    AllSettling clients f rest × IsSettled clients (after_batches f rest) × AreFilled rest
 
 -- the journal's file of two files is in this format
 pub record IsInFormat (format : Format) (files : Two (List ℕ)) : Type 0 where
@@ -76,6 +77,31 @@ pub record IsInFormat (format : Format) (files : Two (List ℕ)) : Type 0 where
 pub record HasLastGeneration (files : Two (List ℕ)) : Type 0 where
   pub whole : IsInFormat kind.Whole files
   pub last : generation_in (file_of files whole.file) ≡ 2 ^ 64 - 1
+
+-- the generation of a journal in this format once it is in format 2: a migration takes the next one
+abbrev pub short_generation : Format → ℕ → ℕ
+short_generation kind.Whole generation = generation + 1
+short_generation kind.Short generation = generation
+
+-- the file that it is in then: a migration moves it to the other
+abbrev pub short_file : Format → ℕ → ℕ
+short_file kind.Whole file = 1 - file
+short_file kind.Short file = file
+
+-- the file that a journal is in once it was written anew so often, each time into the other file
+abbrev pub moved_file : ℕ → ℕ → ℕ
+moved_file zero file = file
+moved_file (suc times) file = 1 - moved_file times file
+
+-- The journal of files that read so before was migrated once, where it was in format 1, and was then
+-- written anew so often: each time it went to the other file, and took just the next generation.
+pub record IsMoved (times : ℕ) (before : Two (List ℕ)) (two : Two File) : Type 0 where
+  pub format : Format
+  pub known : IsInFormat format before
+  pub now : IsInFormat kind.Short (read_files two)
+  pub file_is : now.file ≡ moved_file times (short_file format known.file)
+  pub generation_is : generation_in (file_of (read_files two) now.file)
+      ≡ short_generation format (generation_in (file_of before known.file)) + times
 
 -- where files are told, a generation is left for a journal in format 2, or that has it
 abbrev pub MayMigrate : Option (Two File) → Type 0
@@ -140,20 +166,18 @@ SettledBy clients s (Err outcome.Memory) = Unit {0}
 SettledBy clients s (Err outcome.DiskFault) = Unit {0}
 SettledBy clients s (Err _) = ⊥
 
--- the generation of a journal in this format once it is in format 2: a migration takes the next one
-abbrev pub short_generation : Format → ℕ → ℕ
-short_generation kind.Whole generation = generation + 1
-short_generation kind.Short generation = generation
-
--- the same of a store
+-- the generation and the file of a store's journal once it is in format 2
 abbrev pub next_generation : StoreValue → ℕ
 next_generation s = short_generation (written_in s) s.generation
+
+abbrev pub next_file : StoreValue → ℕ
+next_file s = short_file (written_in s) s.file
 
 -- what a migration leaves of the store: at Ok its journal is in format 2
 abbrev pub MigratedBy : StoreValue → StoreValue → Result (Unit {0}) Outcome → Type 0
 MigratedBy s s' (Ok _) =
     (s'.closed ≡ false) × (written_in s' ≡ kind.Short) × (IsSpent s → ⊥)
-    × (s'.generation ≡ next_generation s)
+    × (s'.generation ≡ next_generation s) × (s'.file ≡ next_file s)
 MigratedBy s s' (Err outcome.Full) = IsSpent s × (s' ≡ s)
 MigratedBy s s' (Err outcome.Memory) = Unit {0}
 MigratedBy s s' (Err outcome.DiskFault) = Unit {0}
@@ -164,7 +188,7 @@ abbrev pub SettledAnew : Meaning → StoreValue → StoreValue → Result (Unit 
 SettledAnew clients s s' (Ok _) =
     (s'.closed ≡ false) × IsSettled clients s'.state.facts × (written_in s' ≡ kind.Short)
     × (IsSpent s → ⊥)
-    × (s'.generation ≡ next_generation s)
+    × (s'.generation ≡ next_generation s) × (s'.file ≡ next_file s)
 SettledAnew clients s s' (Err outcome.Full) = IsSpent s × (s' ≡ s)
 SettledAnew clients s s' (Err outcome.Memory) = Unit {0}
 SettledAnew clients s s' (Err outcome.DiskFault) = Unit {0}
@@ -199,6 +223,7 @@ pub record SettlesAnew (clients : Meaning) (s s' : StoreValue) (old new : Outsid
     (result : Result (Unit {0}) Outcome) : Type 0 where
   pub more : List (List Entry)
   pub comes : ComesAnew clients s s' old new more
+  pub filled : AreFilled more
   pub answer : SettledAnew clients s s' result
 
 -- a store came by settling batches as far as the answer says
@@ -206,6 +231,7 @@ pub record SettlesAs (clients : Meaning) (s s' : StoreValue) (old new : Outside)
     (result : Result (Unit {0}) Outcome) : Type 0 where
   pub more : List (List Entry)
   pub comes : ComesBy clients s s' old new more
+  pub filled : AreFilled more
   pub answer : SettledBy clients s' result
 
 -- the batch, and behind it what is to follow
@@ -232,7 +258,9 @@ pub record AddsAs (clients : Meaning) (settling : Settling) (s s' : StoreValue) 
     (old new : Outside) (result : Result (Unit {0}) Outcome) : Type 0 where
   pub more : List (List Entry)
   pub adds : AddsBatch clients s.state.facts batch more
+  pub file : s'.file ≡ s.file
   pub format : s'.format ≡ s.format
+  pub generation : s'.generation ≡ s.generation
   pub leads : LeadsBy clients s s' old new more
   pub answer : AddedSo clients settling s s' batch more result
 
@@ -247,7 +275,8 @@ ExtendsEnds clients settling j batch (Err outcome.Full) two two' = IsFull client
 ExtendsEnds clients settling j batch (Err _) two two' = Unit {0}
 
 -- Each moment stands for the journal with settling and at most the batch, and at Ok and Full the
--- files are so, which were `two` before. Where they had no generation left it is not Ok.
+-- files are so, which were `two` before. At Ok the journal was moved by a migration alone, and where
+-- the files had no generation left it is not Ok.
 pub record ExtendsTold (clients : Meaning) (settling : Settling) (j : List (List Entry))
     (batch : List Entry) (two : Two File) (old new : Outside)
     (result : Result (Unit {0}) Outcome) : Type 0 where
@@ -256,3 +285,5 @@ pub record ExtendsTold (clients : Meaning) (settling : Settling) (j : List (List
   pub ends : (two' : Two File) → new.files ≡ Some two'
       → ExtendsEnds clients settling j batch result two two'
   pub spent : HasLastGeneration (read_files two) → OnOk result ⊥
+  pub moved : OnOk result ((two' : Two File) → new.files ≡ Some two'
+      → IsMoved 0 (read_files two) two')

@@ -35,6 +35,7 @@ adding clients settling plan = record {
   done = λ two P settled.
       WhenAdds plan (λ e. IsAdded clients settling (e ∷ []) two settled × P (added_text e));
   spent = HasLastGeneration;
+  anew = 0;
 }
 
 -- a command that adds to a journal what it plans

@@ -68,6 +68,7 @@ running clients errand = record {
   full = λ before. IsErrandCutShort clients errand;
   done = IsRun clients errand;
   spent = HasLastGeneration;
+  anew = 0;
 }
 
 -- behind a journal, however it is settled and however much of the errand is done, there is room for

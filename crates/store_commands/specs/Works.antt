@@ -17,24 +17,26 @@ use Rattle.sync_store.specs.Moments.{JournalMoment}
 use Rattle.sync_store.specs.Store.{StoreValue}
 use Rattle.sync_words.specs.declared.outcome.Outcome.{Outcome}
 use Rattle.sync_words.specs.declared.outcome.Outcome.TheVariants as outcome
-use Rattle.store_commands.specs.Commit.{OnceSettled, WasSpent}
+use Rattle.store_commands.specs.Commit.{IsMoved, OnceSettled, WasSpent}
 use Rattle.store_commands.specs.Stopping.{NeverReads, StoodFor, StopsEarly}
 
 -- What a command says of its work: how a journal goes on by some of it; and of a journal with all of
 -- its settling, that there was no room, by what the files read as before and by the files now; that
--- all is done, by the files now and by what is so of its text; and for which files no generation is
--- left for it.
+-- all is done, by the files now and by what is so of its text; for which files no generation is left
+-- for it; and how often it writes the journal anew beside a migration.
 pub record Work : Type 1 where
   pub goes_on : (j whole : List (List Entry)) → Type 0
   pub full : Two (List ℕ) → Two File → (settled : List (List Entry)) → Type 0
   pub done : Two File → (List ℕ → Type 0) → (settled : List (List Entry)) → Type 0
   pub spent : Two (List ℕ) → Type 0
+  pub anew : ℕ
 
--- all of a journal's work is done, and a generation was left for it
+-- all of a journal's work is done, a generation was left for it, and just so many were taken
 abbrev pub IsDone : Meaning → Work → (j : List (List Entry)) → Two (List ℕ) → Two File
     → (List ℕ → Type 0) → Type 0
 IsDone clients work j before two P =
     OnceSettled clients j (work.done two P) × (work.spent before → ⊥)
+    × IsMoved work.anew before two
 
 -- there was no room behind all of its settling; or no generation was left for a journal in format 2
 abbrev pub IsWorkFull : Meaning → Work → (j : List (List Entry)) → Two (List ℕ) → Two File → Type 0

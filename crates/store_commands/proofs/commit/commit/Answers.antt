@@ -16,7 +16,9 @@ returns-in-Ok-clause-added g c =
     record {
       more = c.args.batch ∷ [];
       adds = (refl, tt, tt);
+      file = runs.file;
       format = runs.format;
+      generation = runs.generation;
       leads = runs.leads;
       answer =
           (answer.2.closed, answer.1, one_whole clients c.args.store.now.state.facts c.args.batch);
@@ -37,7 +39,9 @@ returns-in-Err-Full-clause-added g c =
     record {
       more = [];
       adds = tt;
+      file = runs.file;
       format = runs.format;
+      generation = runs.generation;
       leads = runs.leads;
       answer = (answer.2.closed ∙ answer.0, answer.1, refl);
     }
@@ -54,7 +58,15 @@ returns-in-Err-Memory-clause-added g c =
     (rw c.in-Err-Memory.field-0-is at c.in-Err-Memory.ensures.unasked)
     c.in-Err-Memory.ensures.run (record { just = tt; most = c.in-Err-Memory.ensures.calls.most })
     (c.in-Err-Memory.ensures.extends c.requires.ready.still_open) in
-    record { more = []; adds = tt; format = runs.format; leads = runs.leads; answer = tt }
+    record {
+      more = [];
+      adds = tt;
+      file = runs.file;
+      format = runs.format;
+      generation = runs.generation;
+      leads = runs.leads;
+      answer = tt;
+    }
 
 pub returns-in-Err-DiskFault-clause-added : goal.returns-in-Err-DiskFault-clause-added
 returns-in-Err-DiskFault-clause-added g c =
@@ -71,7 +83,9 @@ returns-in-Err-DiskFault-clause-added g c =
     record {
       more = c.args.batch ∷ [];
       adds = (refl, tt, tt);
+      file = runs.file;
       format = runs.format;
+      generation = runs.generation;
       leads = runs.leads;
       answer = tt;
     }

@@ -9,7 +9,9 @@ returns-in-Ok-clause-added g c =
     record {
       more = has.more;
       adds = has.adds;
+      file = has.runs.file;
       format = has.runs.format;
+      generation = has.runs.generation;
       leads = has.runs.leads;
       answer = (has.answer.0, has.answer.1, extended_whole clients _ _ c.args.batch tt _ _ has);
     }
@@ -21,7 +23,9 @@ returns-in-Err-Full-clause-added g c =
     record {
       more = has.more;
       adds = has.adds;
+      file = has.runs.file;
       format = has.runs.format;
+      generation = has.runs.generation;
       leads = has.runs.leads;
       answer = (answer.2.closed ∙ c.requires.ready.still_open, answer.0, answer.1);
     }
@@ -32,7 +36,9 @@ returns-in-Err-Memory-clause-added g c =
     record {
       more = has.more;
       adds = has.adds;
+      file = has.runs.file;
       format = has.runs.format;
+      generation = has.runs.generation;
       leads = has.runs.leads;
       answer = tt;
     }
@@ -43,7 +49,9 @@ returns-in-Err-DiskFault-clause-added g c =
     record {
       more = has.more;
       adds = has.adds;
+      file = has.runs.file;
       format = has.runs.format;
+      generation = has.runs.generation;
       leads = has.runs.leads;
       answer = tt;
     }

@@ -21,6 +21,7 @@ returns-in_err-migrate-clause-settled g c =
     (record {
       more = [];
       comes = migrated.comes;
+      filled = tt;
       answer = migrated_anew_err clients c.args.store.now c.migrate.new.store came migrated.answer;
     })
 
@@ -57,8 +58,9 @@ returns-clause-settled g c =
           (g.D.Disk.tells c.migrate.new.disk) (g.D.Disk.tells c.settle.new.disk) _
           c.settle.result migrated.answer.0
           c.in_ok-migrate.ensures.run migrated settled;
+      filled = settled.filled;
       answer = settled_anew clients s s1 s2 _ c.settle.result migrated.answer settled.comes.format
-          settled.comes.generation settled.answer;
+          settled.comes.generation settled.comes.file settled.answer;
     }
 
 pub returns-clause-untouched : goal.returns-clause-untouched

@@ -17,4 +17,4 @@ pub returns : goal.returns
 returns g c =
     looked (g.C.Clients.meaning c.args.clients.now) (listing_shown c.args.listing) _ _ _ _ _
     c.in_ok-store.store c.in_ok-store.ensures.run c.in_ok-store.ensures.rests
-    c.in_ok-store.ensures.loaded c.print_listing.ensures
+    c.in_ok-store.ensures.loaded c.in_ok-store.ensures.settled c.print_listing.ensures

@@ -19,6 +19,7 @@ returns g c =
     let clients = g.C.Clients.meaning c.args.clients.now in
     looked clients (tree_shown clients c.args.window.now) _ _ _ _ _ c.in_ok-store.store
     c.in_ok-store.ensures.run c.in_ok-store.ensures.rests c.in_ok-store.ensures.loaded
+    c.in_ok-store.ensures.settled
     (c.print_window.ensures clients c.in_ok-store.ensures.opened.ready.knows)
 
 pub print_window-requires : goal.print_window-requires
