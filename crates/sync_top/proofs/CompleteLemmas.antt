@@ -438,6 +438,8 @@ module _ (clients : Meaning) (old new : Outside) (input input' out out' : Stream
       posted_done group timestamp came did serves
   duty_comes_out command.Show came did serves = looked_done _ came did.0 serves
   duty_comes_out command.Inbox came did serves = looked_done _ came did.0 serves
+  duty_comes_out (command.InboxFrom from count) came did serves =
+      looked_done _ came did.0 serves
   duty_comes_out (command.Body id) came did serves = looked_done _ came did.0 serves
   duty_comes_out (command.Tree group from count) came did serves = looked_done _ came did.0 serves
   duty_comes_out command.Audit came did serves = audited_done came did.0 serves

@@ -59,6 +59,9 @@ module _ {H : Type 0} (tells : H → Outside) (clients : Meaning) (h h' : H)
   only_looks (Do command.Inbox) comes keeps =
       λ reads. looked clients (tells h) (tells h') input input' out out' came
       (listing_shown listing.Inbox) comes
+  only_looks (Do (command.InboxFrom from count)) comes keeps =
+      λ reads. looked clients (tells h) (tells h') input input' out out' came
+      (listing_shown (listing.InboxFrom from count)) comes
   only_looks (Do (command.Body id)) comes keeps =
       λ reads. looked clients (tells h) (tells h') input input' out out' came (body_shown id) comes
   only_looks (Do (command.Tree group from count)) comes keeps =

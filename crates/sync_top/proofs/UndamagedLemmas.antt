@@ -200,6 +200,8 @@ module _ (clients : Meaning) (old new : Outside) where
       of_posted group timestamp input input' out out' came did
   of_duty command.Show input input' out out' came other did = of_looked _ out out' came did.0
   of_duty command.Inbox input input' out out' came other did = of_looked _ out out' came did.0
+  of_duty (command.InboxFrom from count) input input' out out' came other did =
+      of_looked _ out out' came did.0
   of_duty (command.Body id) input input' out out' came other did = of_looked _ out out' came did.0
   of_duty (command.Tree group from count) input input' out out' came other did =
       of_looked _ out out' came did.0

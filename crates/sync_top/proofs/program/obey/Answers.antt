@@ -31,6 +31,12 @@ returns-in-Inbox-clause-comes g c =
     as_command (g.C.Clients.meaning c.args.clients.now) c.args.asked command.Inbox _ _ _ _ _ _ _
     c.in-Inbox.is (inl (c.list-in-Inbox.ensures, (record { same = refl; same_faults = refl })))
 
+pub returns-in-InboxFrom-clause-comes : goal.returns-in-InboxFrom-clause-comes
+returns-in-InboxFrom-clause-comes g c =
+    as_command (g.C.Clients.meaning c.args.clients.now) c.args.asked
+    (command.InboxFrom c.in-InboxFrom.from c.in-InboxFrom.count) _ _ _ _ _ _ _ c.in-InboxFrom.is
+    (inl (c.list-in-InboxFrom.ensures, (record { same = refl; same_faults = refl })))
+
 pub returns-in-Body-clause-comes : goal.returns-in-Body-clause-comes
 returns-in-Body-clause-comes g c =
     as_command (g.C.Clients.meaning c.args.clients.now) c.args.asked (command.Body c.in-Body.id) _ _
