@@ -5,3 +5,4 @@ mod Fronts
 mod Targets
 mod Wholes
 mod LastLevels
+mod WellSaid

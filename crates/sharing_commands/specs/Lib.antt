@@ -4,3 +4,4 @@ pub mod Deeds
 pub mod Agreement
 pub mod Agreeing
 pub mod Adding
+pub mod SayingLaws

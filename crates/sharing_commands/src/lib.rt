@@ -3,7 +3,8 @@
 //! - `saying`: the command that joins a group or leaves it; `previous`: the message before.
 //! - `agreeing`: the command that sets the levels that both agree on; `words`: what they said.
 //! - `deed`: what a target asks of a journal; `setting`: the targets, one after the other;
-//!   `adding`: the entries, each a batch of its own; `laws`: which levels they leave.
+//!   `adding`: the entries, each a batch of its own; `laws`: which levels they leave;
+//!   `saying_laws`: no word is passed over.
 #![tactic(auto)]
 
 mod adding;
@@ -12,6 +13,7 @@ mod deed;
 pub mod laws;
 mod previous;
 mod saying;
+pub mod saying_laws;
 mod setting;
 mod words;
 
