@@ -1,5 +1,5 @@
 -- The parts after a step that delivers a message.
-use Rattle.std.proofs.Common.{◌≡◌, ◌≢◌, ℕ, zero, suc, ◌+◌, ◌<◌, Bool, true, false, cond, ◌&&◌, ◌||◌, List, [], ◌∷◌, ◌++◌, length, map, nat_eq, nat_lt, Option, None, Some, slice_get, slice_index_or, refl, sym, ◌∙◌, ap, subst, arith, eqb-true}
+use Rattle.std.proofs.Common.{◌≡◌, ◌≢◌, ℕ, zero, suc, ◌+◌, ◌<◌, Bool, true, false, cond, ◌&&◌, ◌||◌, List, [], ◌∷◌, ◌++◌, length, map, set, nat_eq, nat_lt, Option, None, Some, slice_get, slice_index_or, refl, sym, ◌∙◌, ap, subst, arith, eqb-true}
 use Rattle.std.specs.List.{list_all}
 use Rattle.std.specs.FinSet as fin_set
 use Rattle.std.proofs.lemmas.Bool.{false≢true, and_parts, and_from}
@@ -17,7 +17,7 @@ use Rattle.message_graph.specs.Nodes as nodes
 use Rattle.retry_table.specs.Table as retry
 use Rattle.journal_state.specs.Left.{one_if_delivered, sum_of}
 use Rattle.journal_state.specs.Parts.{Parts, answer_of_node, answers_of, facts_of, is_invalid, is_judged, name_at, ids_where, rows_in, shared_among, wants_in}
-use Rattle.journal_state.specs.Whole.{IsState, is_delivered_in, may_go}
+use Rattle.journal_state.specs.Whole.{IsState, is_delivered_in, left_in, may_go}
 use Rattle.journal_state.specs.Changes.{delivered_parts}
 use Rattle.journal_state.specs.Delivery.{goes_to, ReadiesMessage}
 use Rattle.journal_state.specs.Taking.{moved}
@@ -31,6 +31,7 @@ use Rattle.journal_state.proofs.Stepped.{answers_kept, kept_at, length_kept, nam
 use Rattle.journal_state.proofs.Grown.{rows_same, wants_same}
 use Rattle.journal_state.proofs.Limited.{readied_row}
 use Rattle.journal_state.proofs.Sums.{sum_changed}
+use Rattle.journal_state.proofs.Tables.{set_here, set_there}
 
 -- ---- lists with one more
 
@@ -155,6 +156,12 @@ module _ (p : Parts) (s : IsState p) (n : ℕ) (y : Node) (h : Held) (at : slice
       ∙ (ap is_delivered_in (own_found p.nodes n y at (subst AreApart (sym s.named) (first_apart p.held s.distinct)))
       ∙ ap nodes.is_delivered open_now))
 
+  -- it was not released
+  pub free_before : retry.group_at p.retry n ≡ None
+  free_before =
+      s.released n h y there at
+      ∙ ap (λ b. cond (b && (is_author h.origin || is_among (shared_among p.held (answers_of p.nodes p.shares)) h.id)) (Some y.group) None) not_before
+
   ended_by : (b before : Bool) (d : Id) → same_id h.id d ≡ b → before ≡ is_delivered_in (nodes.node_named p.nodes d)
       → (before || b) ≡ is_delivered_in (cond b (Some (end_delivered y)) (nodes.node_named p.nodes d))
   ended_by true before d e f = or_true before
@@ -172,7 +179,8 @@ module _ (p : Parts) (s : IsState p) (n : ℕ) (y : Node) (h : Held) (at : slice
       ∙ ap is_delivered_in (sym (named_changed end_delivered (λ x. refl) p.nodes n y at apart d))))
 
   module _ (share outgoing : Bool) (lets : slice_get p.shares n ≡ Some share) (opens : outgoing ≡ (is_author h.origin || share))
-      (t : retry.Table) (r : ReadiesMessage p.retry t (goes_to p.table.levels h.message.group outgoing) p.table.contacts n) where
+      (t : retry.Table) (r : ReadiesMessage p.retry t (goes_to p.table.levels h.message.group outgoing) p.table.contacts n)
+      (groups : t.groups ≡ cond outgoing (set p.retry.groups n (Some y.group)) p.retry.groups) (long : n < length p.retry.groups) where
     shared_now : is_among (shared_among p.held (answers_of (nodes.with_ending n ending.Delivered p.nodes) p.shares)) h.id ≡ share
     shared_now =
         ap (λ (os : List (Option Judgement)). is_among (shared_among p.held os) h.id) (answers_kept p.nodes p.shares n ending.Delivered)
@@ -243,6 +251,66 @@ module _ (p : Parts) (s : IsState p) (n : ℕ) (y : Node) (h : Held) (at : slice
         (shared_among p.held (answers_of (nodes.with_ending n ending.Delivered p.nodes) p.shares)) contact) own)
     ready_now contact k x known here false e = ready_there contact k x known here (let ne : k ≢ n = (λ q. grind (arith, e, q)) in ne)
 
+    -- ---- released
+
+    released_other : (k : ℕ) → k ≢ n → retry.group_at t k ≡ retry.group_at p.retry k
+    released_other k ne = ap (λ (gs : List (Option ℕ)). slice_index_or gs k None) groups ∙ by outgoing
+      where
+        by : (b : Bool) → slice_index_or (cond b (set p.retry.groups n (Some y.group)) p.retry.groups) k None ≡ slice_index_or p.retry.groups k None
+        by true = set_there p.retry.groups n k (Some y.group) None ne
+        by false = refl
+
+    released_own : retry.group_at t n
+        ≡ left_in (map (name_at (nodes.with_ending n ending.Delivered p.nodes)) (p.delivered ++ n ∷ []))
+        (shared_among p.held (answers_of (nodes.with_ending n ending.Delivered p.nodes) p.shares)) h y.group
+    released_own =
+        let is_now : is_among (map (name_at (nodes.with_ending n ending.Delivered p.nodes)) (p.delivered ++ n ∷ [])) h.id ≡ true =
+        among_now h.id
+        ∙ (ap (λ b. is_among (map (name_at p.nodes) p.delivered) h.id || b)
+        (same_id_itself h.id) ∙ or_true (is_among (map (name_at p.nodes) p.delivered) h.id)) in
+        ap (λ (gs : List (Option ℕ)). slice_index_or gs n None) groups
+        ∙ (by outgoing
+        ∙ (ap (λ b. cond b (Some y.group) None) opens ∙ (λ i. cond (sym is_now i && (is_author h.origin || sym shared_now i)) (Some y.group) None)))
+      where
+        by : (b : Bool) → slice_index_or (cond b (set p.retry.groups n (Some y.group)) p.retry.groups) n None ≡ cond b (Some y.group) None
+        by true = set_here p.retry.groups n (Some y.group) None long
+        by false = free_before
+
+    among_other : (k : ℕ) (x : Held) → slice_get p.held k ≡ Some x → k ≢ n
+        → is_among (map (name_at (nodes.with_ending n ending.Delivered p.nodes)) (p.delivered ++ n ∷ [])) x.id ≡ is_among (map (name_at p.nodes) p.delivered) x.id
+    among_other k x here ne =
+        let away : same_id h.id x.id ≡ false = by (same_id h.id x.id) refl in
+        among_now x.id ∙ (ap (λ b. is_among (map (name_at p.nodes) p.delivered) x.id || b) away ∙ or_none (is_among (map (name_at p.nodes) p.delivered) x.id))
+      where
+        by : (b : Bool) → same_id h.id x.id ≡ b → b ≡ false
+        by true q =
+            absurd (ne
+            (let places : Some k ≡ Some n = sym (s.distinct k x here)
+            ∙ (ap (place_of p.held) (sym (same_id-is h.id x.id q)) ∙ s.distinct n h there) in
+            let same : k ≡ n = cc in same))
+        by false q = refl
+
+    released_now : (k : ℕ) (x : Held) (node : Node) → slice_get p.held k ≡ Some x → slice_get (nodes.with_ending n ending.Delivered p.nodes) k ≡ Some node → (b : Bool) → nat_eq k n ≡ b
+        → retry.group_at t k
+        ≡ left_in (map (name_at (nodes.with_ending n ending.Delivered p.nodes)) (p.delivered ++ n ∷ []))
+        (shared_among p.held (answers_of (nodes.with_ending n ending.Delivered p.nodes) p.shares)) x node.group
+    released_now k x node here stands true e =
+        let number : k ≡ n = eqb-true k n e in
+        let w = kept_at end_delivered (λ (w : Node). w.group) (λ w. refl) p.nodes n k node stands in
+        let own : h ≡ x = (let both : Some h ≡ Some x = sym there ∙ (ap (slice_get p.held) (sym number) ∙ here) in cc) in
+        let mine : y ≡ w.0 = (let both : Some y ≡ Some w.0 = sym at ∙ (ap (slice_get p.nodes) (sym number) ∙ w.1) in cc) in
+        let group : y.group ≡ node.group = ap (λ (v : Node). v.group) mine ∙ sym w.2 in
+        ap (λ j. retry.group_at t j) number
+        ∙ (released_own
+        ∙ (λ i. left_in (map (name_at (nodes.with_ending n ending.Delivered p.nodes)) (p.delivered ++ n ∷ []))
+        (shared_among p.held (answers_of (nodes.with_ending n ending.Delivered p.nodes) p.shares)) (own i) (group i)))
+    released_now k x node here stands false e =
+        let ne : k ≢ n = (λ q. grind (arith, e, q)) in
+        let w = kept_at end_delivered (λ (w : Node). w.group) (λ w. refl) p.nodes n k node stands in
+        released_other k ne
+        ∙ (s.released k x w.0 here w.1
+        ∙ (λ i. cond (sym (among_other k x here ne) i && (is_author x.origin || is_among (shared_among p.held (sym (answers_kept p.nodes p.shares n ending.Delivered) i)) x.id)) (Some (sym w.2 i)) None))
+
     pub delivered_state : IsState (delivered_parts p n t)
     delivered_state = record {
       named = names_kept end_delivered (λ x. refl) n p.nodes ∙ s.named;
@@ -268,6 +336,10 @@ module _ (p : Parts) (s : IsState p) (n : ℕ) (y : Node) (h : Held) (at : slice
       free_wants = λ contact beyond. ap (λ (ws : List retry.WantedFromContact). (slice_index_or ws contact retry.no_wants).ids) r.wants ∙ s.free_wants contact beyond;
       hidden = s.hidden;
       shown = s.shown;
+      released = λ k x node here stands. released_now k x node here stands (nat_eq k n) refl;
+      unreleased = λ k beyond.
+          released_other k (λ q. let below : n < length p.held = within_list p.held n h there in absurd (omega (arith, below, q, beyond)))
+          ∙ s.unreleased k beyond;
       ready = λ contact k x known here. ready_now contact k x known here (nat_eq k n) refl;
     }
 

@@ -1,5 +1,5 @@
 -- The parts of a journal that has no entries, and of one that has groups alone.
-use Rattle.std.proofs.Common.{◌≡◌, ℕ, ◌+◌, List, [], ◌∷◌, Some, None, slice_get, refl, sym, ◌∙◌, ap}
+use Rattle.std.proofs.Common.{◌≡◌, ℕ, ◌+◌, List, [], ◌∷◌, Some, None, slice_get, slice_index_or, refl, sym, ◌∙◌, ap}
 use Rattle.std.proofs.Common.{Option, unwrap_or}
 use Rattle.std.specs.FinMap as fin_map
 use Rattle.std.proofs.lemmas.Bool.{false≢true}
@@ -47,13 +47,15 @@ empty_is_state groups room table none = record {
   within = refl;
   ended = λ id. refl;
   many = refl;
-  free_rows = λ contact n beyond. ap (λ (ks : List retry.KeptRow). retry.kept_in ks n) (none contact).0;
-  free_wants = λ contact beyond. ap (λ (w : retry.WantedFromContact). w.ids) (none contact).1;
+  free_rows = λ contact n beyond. ap (λ (ks : List retry.KeptRow). retry.kept_in ks n) (none.rows contact);
+  free_wants = λ contact beyond. ap (λ (w : retry.WantedFromContact). w.ids) (none.wants contact);
   hidden = λ contact group beyond. ap (λ (o : Option Level). unwrap_or o level.Invisible)
       (fin_map.get-empty pair_cmp (contact, group));
   shown = λ contact group e. absurd
       (false≢true (sym e ∙ ap (λ (o : Option Level). is_invisible (unwrap_or o level.Invisible))
       (fin_map.get-empty pair_cmp (contact, group))));
+  released = λ n h node at here. absurd (not_there n h at);
+  unreleased = λ n beyond. ap (λ (gs : List (Option ℕ)). slice_index_or gs n None) none.groups;
   ready = λ contact n h known at. absurd (not_there n h at);
 }
 

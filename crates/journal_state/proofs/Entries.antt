@@ -41,6 +41,8 @@ module _ (p : Parts) (s : IsState p) (c : ℕ) (t : levels.TableOfLevels) (made 
     free_wants = λ contact beyond. s.free_wants contact (omega arith);
     hidden = λ contact group beyond. s.hidden contact group (omega arith);
     shown = s.shown;
+    released = s.released;
+    unreleased = s.unreleased;
     ready = s.ready;
   }
 
@@ -134,6 +136,8 @@ module _ (p : Parts) (s : IsState p) (def : GroupValue) (t : levels.TableOfLevel
     shown = λ contact group e.
         let known = s.shown contact group e in
         ap (λ (o : Option Known). is_some o) (known_more p.table.groups (known_of def ∷ []) group known) ∙ known;
+    released = s.released;
+    unreleased = s.unreleased;
     ready = s.ready;
   }
 
@@ -169,6 +173,8 @@ module _ (p : Parts) (s : IsState p) (begun : Begun) (space : ℕ) where
     free_wants = s.free_wants;
     hidden = s.hidden;
     shown = s.shown;
+    released = s.released;
+    unreleased = s.unreleased;
     ready = s.ready;
   }
 

@@ -7,6 +7,7 @@ use Rattle.sync_rules.specs.Views.{place_of}
 use Rattle.retry_table.specs.Table as retry
 use Rattle.journal_state.specs.Parts.{Parts, facts_of, rows_in, wants_in}
 use Rattle.journal_state.specs.Whole.{IsState}
+use Rattle.journal_state.proofs.Tables.{padded}
 use Rattle.journal_state.specs.Delivery.{GrowsRoom}
 use Rattle.journal_state.proofs.Rows.{row_by, row_found, lean_in, rows_are}
 
@@ -51,7 +52,25 @@ same_kept (k ∷ rows) more zero = refl
 same_kept (k ∷ rows) more (suc n) = same_kept rows more n
 
 pub same_table : (t : retry.Table) → GrowsRoom t t
-same_table t = record { kept = λ contact n. refl; wants = λ contact. refl; room = λ contact. omega arith }
+same_table t = record { kept = λ contact n. refl; wants = λ contact. refl; room = λ contact. omega arith; groups = λ n. refl }
+
+-- room is made twice
+pub grown_twice : (old mid new : retry.Table) → GrowsRoom old mid → GrowsRoom mid new → GrowsRoom old new
+grown_twice old mid new a b = record {
+  kept = λ contact n. b.kept contact n ∙ a.kept contact n;
+  wants = λ contact. b.wants contact ∙ a.wants contact;
+  room = λ contact. let one = a.room contact in let two = b.room contact in omega (arith, one, two);
+  groups = λ n. b.groups n ∙ a.groups n;
+}
+
+-- room for messages to be released
+pub grown_release : (t : retry.Table) (more : ℕ) → GrowsRoom t (record t { groups = t.groups ++ replicate more None })
+grown_release t more = record {
+  kept = λ contact n. refl;
+  wants = λ contact. refl;
+  room = λ contact. omega arith;
+  groups = λ n. padded t.groups None more n;
+}
 
 module _ (old new : retry.Table) (contact numbers room : ℕ) (r : retry.ReservesRows old new contact numbers room) where
   kept_by : (c n : ℕ) (b : Bool) → nat_eq c contact ≡ b → retry.kept_at new c n ≡ retry.kept_at old c n
@@ -85,6 +104,7 @@ module _ (old new : retry.Table) (contact numbers room : ℕ) (r : retry.Reserve
     kept = λ c n. kept_by c n (nat_eq c contact) refl;
     wants = λ c. wants_by c (nat_eq c contact) refl;
     room = λ c. room_by c (nat_eq c contact) refl;
+    groups = λ n. ap (λ (gs : List (Option ℕ)). slice_index_or gs n None) r.groups;
   }
 
 pub grown_state : (p : Parts) → IsState p → (t : retry.Table) → GrowsRoom p.retry t → IsState (record p { retry = t })
@@ -101,6 +121,8 @@ grown_state p s t g = record {
   free_wants = λ contact beyond. g.wants contact ∙ s.free_wants contact beyond;
   hidden = s.hidden;
   shown = s.shown;
+  released = λ n h node at here. g.groups n ∙ s.released n h node at here;
+  unreleased = λ n beyond. g.groups n ∙ s.unreleased n beyond;
   ready = λ contact n h known at. ap (λ (k : retry.KeptRow). k.ready) (g.kept contact n) ∙ s.ready contact n h known at;
 }
 

@@ -1,5 +1,5 @@
 -- What a change of the table of what is due makes of the facts.
-use Rattle.std.proofs.Common.{◌≡◌, ℕ, zero, suc, ◌<◌, ◌≤◌, Bool, true, false, cond, ◌&&◌, nat_eq, List, [], ◌∷◌, length, Option, None, Some, slice_get, refl, sym, ◌∙◌, ap, arith, eqb-true}
+use Rattle.std.proofs.Common.{◌≡◌, ℕ, zero, suc, ◌<◌, ◌≤◌, Bool, true, false, cond, ◌&&◌, nat_eq, List, [], ◌∷◌, length, Option, None, Some, slice_get, slice_index_or, refl, sym, ◌∙◌, ap, arith, eqb-true}
 use Rattle.std.specs.FinMap as fin_map
 use Rattle.std.proofs.lemmas.Bool.{false≢true}
 use Rattle.sync_rules.specs.Lists.{same_id}
@@ -37,8 +37,9 @@ module _ (p : Parts) (s : IsState p) (t : retry.Table) (space : ℕ) where
   pub with_table : ((contact n : ℕ) → (retry.kept_at t contact n).ready ≡ (retry.kept_at p.retry contact n).ready)
       → ((contact n : ℕ) → length p.held ≤ n → retry.kept_at t contact n ≡ retry.no_kept)
       → ((contact : ℕ) → p.table.contacts ≤ contact → (retry.wants_of t contact).ids ≡ [])
+      → ((n : ℕ) → retry.group_at t n ≡ retry.group_at p.retry n)
       → IsState (record p { retry = t; space = space })
-  with_table ready rows wants = record {
+  with_table ready rows wants groups = record {
     named = s.named;
     grouped = s.grouped;
     distinct = s.distinct;
@@ -51,13 +52,15 @@ module _ (p : Parts) (s : IsState p) (t : retry.Table) (space : ℕ) where
     free_wants = wants;
     hidden = s.hidden;
     shown = s.shown;
+    released = λ n h node at here. groups n ∙ s.released n h node at here;
+    unreleased = λ n beyond. groups n ∙ s.unreleased n beyond;
     ready = λ contact n h known at. ready contact n ∙ s.ready contact n h known at;
   }
 
   pub same_state : SameKept p.retry t → IsState (record p { retry = t; space = space })
   same_state k = with_table (λ contact n. ap (λ (x : retry.KeptRow). x.ready) (k.rows contact n))
       (λ contact n beyond. k.rows contact n ∙ s.free_rows contact n beyond)
-      (λ contact beyond. k.wants contact ∙ s.free_wants contact beyond)
+      (λ contact beyond. k.wants contact ∙ s.free_wants contact beyond) k.groups
 
   pub same_facts : SameKept p.retry t → facts_of (record p { retry = t; space = space }) ≡ facts_of p
   same_facts k = λ i. record (facts_of p) {
@@ -144,6 +147,7 @@ module _ (p : Parts) (s : IsState p) (contact n : ℕ) (h : Held) (at : slice_ge
 
   pub marked_state : IsState (record p { retry = t })
   marked_state = with_table p s t p.space same_ready free_still (λ c beyond. same_wants c ∙ s.free_wants c beyond)
+      (λ m. ap (λ (gs : List (Option ℕ)). slice_index_or gs m None) k.groups)
 
   pub marked_facts : facts_of (record p { retry = t }) ≡ record (facts_of p) { rows = change_row (rows_in p.retry p.held) contact h.id change }
   marked_facts = λ i. record (facts_of p) { rows = marked_rows i; wanted = wants_same t p.retry p.table.contacts same_wants i }

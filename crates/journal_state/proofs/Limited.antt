@@ -30,7 +30,7 @@ limited_tried t r few wait = record { few = few; wait = wait }
 -- nothing is kept
 pub limits_none : (table : retry.Table) → retry.IsEmpty table → LimitsRows table
 limits_none table none contact n =
-    let row : ◌≡◌ {A = Row} (retry.kept_at table contact n).row retry.no_kept.row = ap (λ (ks : List retry.KeptRow). (retry.kept_in ks n).row) (none contact).0 in
+    let row : ◌≡◌ {A = Row} (retry.kept_at table contact n).row retry.no_kept.row = ap (λ (ks : List retry.KeptRow). (retry.kept_in ks n).row) (none.rows contact) in
     subst IsLimited (sym row) (record { few = omega arith; wait = λ e. refl })
 
 -- the rows are as before

@@ -1,5 +1,5 @@
 -- A step is made: the parts after it, by what its function knows.
-use Rattle.std.proofs.Common.{◌≡◌, ℕ, zero, suc, ◌<◌, Bool, ◌||◌, List, [], ◌∷◌, ◌++◌, length, map, slice_set, Option, Some, slice_get, slice_index_or, sym, ◌∙◌, ap, subst, arith}
+use Rattle.std.proofs.Common.{◌≡◌, ℕ, zero, suc, ◌<◌, Bool, cond, set, None, ◌||◌, List, [], ◌∷◌, ◌++◌, length, map, slice_set, Option, Some, slice_get, slice_index_or, sym, ◌∙◌, ap, subst, arith}
 use Rattle.std.specs.Option.{option_map}
 use Rattle.sync_ids.specs.Values.{MessageValue}
 use Rattle.sync_rules.specs.declared.answers.Judgement.{Judgement}
@@ -25,7 +25,8 @@ use Rattle.journal_state.proofs.Listed.{id_there}
 use Rattle.journal_state.proofs.Found.{IsNext, next_found, judge_next, invalid_next, deliver_next}
 use Rattle.journal_state.proofs.Stepped.{answers_kept, invalid_state, invalid_facts, judged_state, judged_facts, judged_knows, within_list}
 use Rattle.journal_state.proofs.Grown.{grown_state, grown_facts}
-use Rattle.journal_state.proofs.Delivered.{delivered_state, delivered_facts}
+use Rattle.journal_state.proofs.Delivered.{delivered_state, delivered_facts, free_before}
+use Rattle.visibility_table.specs.Table as levels
 
 -- ---- the node of a step
 
@@ -103,6 +104,21 @@ module _ (p : Parts) (s : IsState p) (n : ℕ) (e : nodes.next_step p.nodes ≡ 
 
 -- ---- delivered
 
+-- the message of the next step was not released, and its group is known
+module _ (p : Parts) (s : IsState p) (n : ℕ) (e : nodes.next_step p.nodes ≡ Some (step.Deliver n)) where
+  pub free_now : retry.group_at p.retry n ≡ None
+  free_now =
+      let f : IsNext p (step.Deliver n) = next_found p s (step.Deliver n) e in
+      free_before p s n f.node f.message f.at f.there f.tells.1.0 f.tells.1.1 f.tells.2
+
+  pub known_now : (m : MessageValue) → option_map (λ (h : Held). h.message) (slice_get p.held n) ≡ Some m → (k : ℕ) × (levels.group_number p.table.groups m.group ≡ Some k)
+  known_now m m_is =
+      let f : IsNext p (step.Deliver n) = next_found p s (step.Deliver n) e in (
+        f.node.group,
+        ap (λ (x : MessageValue). levels.group_number p.table.groups x.group) (sym (shown_as (λ (h : Held). h.message) (slice_get p.held n) f.message m f.there m_is))
+            ∙ s.grouped n f.message f.node f.there f.at,
+      )
+
 got : {A : Type 0} (xs : List A) (n : ℕ) (x : A) → n < length xs → x ≡ slice_index_or xs n x → slice_get xs n ≡ Some x
 got [] n x within is = absurd (omega arith)
 got (y ∷ xs) zero x within is = ap Some (sym is)
@@ -113,6 +129,7 @@ module _ (p : Parts) (s : IsState p) (n : ℕ) (e : nodes.next_step p.nodes ≡ 
     (group : Id) (group_is : group ≡ m.group) (o : Origin) (o_is : option_map (λ (h : Held). h.origin) (slice_get p.held n) ≡ Some o)
     (share : Bool) (share_is : share ≡ slice_index_or p.shares n share) (outgoing : Bool) (out_is : outgoing ≡ (is_author o || share))
     (t : retry.Table) (g : GrowsRoom p.retry t) (u : retry.Table) (r : ReadiesMessage t u (goes_to p.table.levels group outgoing) p.table.contacts n)
+    (number : ℕ) (number_is : levels.group_number p.table.groups group ≡ Some number) (groups : u.groups ≡ cond outgoing (set t.groups n (Some number)) t.groups) (long : n < length t.groups)
     (ns : List Node) (ns_is : ns ≡ nodes.with_ending n ending.Delivered p.nodes) (ds : List ℕ) (ds_is : ds ≡ p.delivered ++ n ∷ []) where
   next_now : IsNext p (step.Deliver n)
   next_now = next_found p s (step.Deliver n) e
@@ -126,6 +143,15 @@ module _ (p : Parts) (s : IsState p) (n : ℕ) (e : nodes.next_step p.nodes ≡ 
   opens_now : (h : Held) → slice_get p.held n ≡ Some h → outgoing ≡ (is_author h.origin || share)
   opens_now h there = out_is ∙ ap (λ (x : Origin). is_author x || share) (sym (shown_as (λ (w : Held). w.origin) (slice_get p.held n) h o there o_is))
 
+  group_now : (h : Held) → slice_get p.held n ≡ Some h → group ≡ h.message.group
+  group_now h there = group_is ∙ ap (λ (x : MessageValue). x.group) (sym (shown_as (λ (w : Held). w.message) (slice_get p.held n) h m there m_is))
+
+  groups_now : (h : Held) (y : Node) → slice_get p.held n ≡ Some h → slice_get p.nodes n ≡ Some y → u.groups ≡ cond outgoing (set t.groups n (Some y.group)) t.groups
+  groups_now h y there at =
+      let both : Some number ≡ Some y.group = sym number_is ∙ (ap (levels.group_number p.table.groups) (group_now h there) ∙ s.grouped n h y there at) in
+      let same : number ≡ y.group = cc in
+      groups ∙ ap (λ k. cond outgoing (set t.groups n (Some k)) t.groups) same
+
   readies_now : (h : Held) → slice_get p.held n ≡ Some h → ReadiesMessage t u (goes_to p.table.levels h.message.group outgoing) p.table.contacts n
   readies_now h there =
       let same : group ≡ h.message.group = group_is ∙ ap (λ (x : MessageValue). x.group) (sym (shown_as (λ (w : Held). w.message) (slice_get p.held n) h m there m_is)) in
@@ -136,7 +162,7 @@ module _ (p : Parts) (s : IsState p) (n : ℕ) (e : nodes.next_step p.nodes ≡ 
       let f : IsNext p (step.Deliver n) = next_found p s (step.Deliver n) e in
       let made : IsState (delivered_parts (record p { retry = t }) n u) =
       delivered_state (record p { retry = t }) (grown_state p s t g) n f.node f.message f.at f.there f.tells.1.0 f.tells.1.1 f.tells.2
-      share outgoing lets_now (opens_now f.message f.there) u (readies_now f.message f.there) in
+      share outgoing lets_now (opens_now f.message f.there) u (readies_now f.message f.there) (groups_now f.message f.node f.there f.at) long in
       subst (λ (xs : List Node). IsState (record p { nodes = xs; delivered = ds; retry = u })) (sym ns_is)
       (subst (λ (ks : List ℕ). IsState (record p { nodes = nodes.with_ending n ending.Delivered p.nodes; delivered = ks; retry = u })) (sym ds_is) made)
 
@@ -145,7 +171,7 @@ module _ (p : Parts) (s : IsState p) (n : ℕ) (e : nodes.next_step p.nodes ≡ 
       let f : IsNext p (step.Deliver n) = next_found p s (step.Deliver n) e in
       (λ i. facts_of (record p { nodes = ns_is i; delivered = ds_is i; retry = u }))
       ∙ (delivered_facts (record p { retry = t }) (grown_state p s t g) n f.node f.message f.at f.there f.tells.1.0 f.tells.1.1 f.tells.2
-      share outgoing lets_now (opens_now f.message f.there) u (readies_now f.message f.there)
+      share outgoing lets_now (opens_now f.message f.there) u (readies_now f.message f.there) (groups_now f.message f.node f.there f.at) long
       ∙ ((λ i. moved (grown_facts p t g i) (entry.Deliver f.message.id))
       ∙ ap (λ (d : Id). moved (facts_of p) (entry.Deliver d)) (sym (id_there p.held n f.message f.there))))
 

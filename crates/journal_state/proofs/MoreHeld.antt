@@ -23,7 +23,7 @@ use Rattle.visibility_table.specs.Table as levels
 use Rattle.journal_state.specs.Left.{delivered_among, one_if_delivered}
 use Rattle.journal_state.specs.Parts.{Parts, answer_of_node, answers_of, facts_of, is_invalid, is_judged, name_at, names_where, rows_in, shared_among, wants_in}
 use Rattle.journal_state.specs.Unwanted.{UnwantsBelow}
-use Rattle.journal_state.specs.Whole.{IsState, KnowsJudgements, is_delivered_in, may_go, value_of}
+use Rattle.journal_state.specs.Whole.{IsState, KnowsJudgements, is_delivered_in, left_in, may_go, value_of}
 use Rattle.sync_rules.proofs.Elements.{same_id_itself, same_id_swap}
 use Rattle.journal_state.specs.Sound.{AreApart}
 use Rattle.journal_state.proofs.Apart.{first_apart, passes, set_named}
@@ -324,6 +324,34 @@ module _ (p : Parts) (s : IsState p) (h : Held) (group : ℕ) (t : retry.Table) 
       h.id)))
       (ap (λ (ids : List Id). is_among ids h.id) delivered_still ∙ not_delivered))
 
+  groups_still : (n : ℕ) → retry.group_at t n ≡ retry.group_at p.retry n
+  groups_still n = ap (λ (gs : List (Option ℕ)). slice_index_or gs n None) u.groups
+
+  released_old : (n : ℕ) (x : Held) → slice_get p.held n ≡ Some x → (node : Node) → slice_get (p.nodes ++ nodes.fresh_node h.id group ∷ []) n ≡ Some node
+      → retry.group_at t n
+      ≡ left_in (map (name_at (p.nodes ++ nodes.fresh_node h.id group ∷ [])) p.delivered)
+      (shared_among (p.held ++ h ∷ []) (answers_of (p.nodes ++ nodes.fresh_node h.id group ∷ []) (p.shares ++ false ∷ []))) x node.group
+  released_old n x at node here =
+      let inside : n < length p.held = within_held p.held n x at in
+      let was = there p.nodes n (omega (arith, inside, many_nodes p s)) in
+      let same : Some was.0 ≡ Some node =
+      sym (still_at p.nodes (nodes.fresh_node h.id group) n was.0 was.1) ∙ here in
+      let one : was.0 ≡ node = cc in
+      groups_still n ∙ (s.released n x was.0 at was.1
+      ∙ (λ i. left_in (sym delivered_still i) (sym shared_still i) x (one i).group))
+
+  released_new : (node : Node) → slice_get (p.nodes ++ nodes.fresh_node h.id group ∷ []) (length p.held) ≡ Some node
+      → retry.group_at t (length p.held)
+      ≡ left_in (map (name_at (p.nodes ++ nodes.fresh_node h.id group ∷ [])) p.delivered)
+      (shared_among (p.held ++ h ∷ []) (answers_of (p.nodes ++ nodes.fresh_node h.id group ∷ []) (p.shares ++ false ∷ []))) h node.group
+  released_new node here =
+      groups_still (length p.held) ∙ (s.unreleased (length p.held) (omega arith)
+      ∙ sym (ap (λ b. cond (b && (is_author h.origin || is_among
+      (shared_among (p.held ++ h ∷ [])
+      (answers_of (p.nodes ++ nodes.fresh_node h.id group ∷ []) (p.shares ++ false ∷ [])))
+      h.id)) (Some node.group) None)
+      (ap (λ (ids : List Id). is_among ids h.id) delivered_still ∙ not_delivered)))
+
   pub held_state : IsState (held_parts p h group t space)
   held_state = record {
     named =
@@ -351,6 +379,13 @@ module _ (p : Parts) (s : IsState p) (h : Held) (group : ℕ) (t : retry.Table) 
     free_wants = wants_free;
     hidden = s.hidden;
     shown = s.shown;
+    released = λ n x node a b. end_cases
+        {P = λ k w. (y : Node) → slice_get (p.nodes ++ nodes.fresh_node h.id group ∷ []) k ≡ Some y
+        → retry.group_at t k
+        ≡ left_in (map (name_at (p.nodes ++ nodes.fresh_node h.id group ∷ [])) p.delivered)
+        (shared_among (p.held ++ h ∷ []) (answers_of (p.nodes ++ nodes.fresh_node h.id group ∷ []) (p.shares ++ false ∷ []))) w y.group}
+        p.held h released_old released_new n x a node b;
+    unreleased = λ n beyond. groups_still n ∙ s.unreleased n (omega (arith, held_length));
     ready = λ contact n x below at. end_cases
         {P = λ k w. (c : ℕ) → c < 256
         → (retry.kept_at t c k).ready ≡ may_go p.table.levels

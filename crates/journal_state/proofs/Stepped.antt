@@ -18,7 +18,7 @@ use Rattle.message_graph.specs.declared.nodes.Ending.TheVariants as ending
 use Rattle.message_graph.specs.Nodes as nodes
 use Rattle.journal_state.specs.Left.{one_if_delivered}
 use Rattle.journal_state.specs.Parts.{Parts, answer_of_node, answers_of, facts_of, is_invalid, is_judged, name_at, ids_where, shared_among}
-use Rattle.journal_state.specs.Whole.{IsState, KnowsJudgements, is_delivered_in, may_go, value_of}
+use Rattle.journal_state.specs.Whole.{IsState, KnowsJudgements, is_delivered_in, left_in, may_go, value_of}
 use Rattle.journal_state.specs.Changes.{judged_parts, invalid_parts}
 use Rattle.journal_state.specs.Taking.{moved}
 use Rattle.sync_rules.proofs.Elements.{same_id-is}
@@ -132,6 +132,21 @@ module _ (p : Parts) (s : IsState p) (n : ℕ) (y : Node) (h : Held) (at : slice
           ∙ (ap (is_among (map (name_at p.nodes) p.delivered)) (same_id-is h.id x.id q) ∙ e)))
       by false q = refl
 
+  released_by : (x : Held) (g : ℕ) (d : Bool) → is_among (map (name_at p.nodes) p.delivered) x.id ≡ d
+      → cond (d && (is_author x.origin || is_among (shared_among p.held (answers_of p.nodes p.shares)) x.id)) (Some g) None
+      ≡ cond (d && (is_author x.origin || is_among (shared_among p.held (set (answers_of p.nodes p.shares) n (Some a))) x.id)) (Some g) None
+  released_by x g false e = refl
+  released_by x g true e =
+      let away : same_id h.id x.id ≡ false = by (same_id h.id x.id) refl in
+      ap (λ b. cond (is_author x.origin || b) (Some g) None) (sym (shared_others p.held (answers_of p.nodes p.shares) n h (Some a) x.id there away))
+    where
+      by : (b : Bool) → same_id h.id x.id ≡ b → b ≡ false
+      by true q =
+          absurd (false≢true
+          (sym not_delivered
+          ∙ (ap (is_among (map (name_at p.nodes) p.delivered)) (same_id-is h.id x.id q) ∙ e)))
+      by false q = refl
+
   ordered : (k : ℕ) (x : Node) → slice_get (nodes.with_answer n j p.nodes) k ≡ Some x → x.answer ≡ None → x.ending ≡ None
   ordered k x now none =
       let w = was_at (λ (w : Node). record w { answer = Some j }) p.nodes n k x now in
@@ -156,6 +171,12 @@ module _ (p : Parts) (s : IsState p) (n : ℕ) (y : Node) (h : Held) (at : slice
     free_wants = s.free_wants;
     hidden = s.hidden;
     shown = s.shown;
+    released = λ k x node a b.
+        let w = kept_at (λ (w : Node). record w { answer = Some j }) (λ (w : Node). w.group) (λ w. refl) p.nodes n k node b in
+        s.released k x w.0 a w.1
+        ∙ (released_by x w.0.group (is_among (map (name_at p.nodes) p.delivered) x.id) refl
+        ∙ (λ i. left_in (sym (delivered_step p s (λ (v : Node). record v { answer = Some j }) (λ v. refl) n y h at there) i) (shared_among p.held (sym answers_step i)) x (sym w.2 i)));
+    unreleased = s.unreleased;
     ready = λ contact k x known here.
         s.ready contact k x known here
         ∙ (ready_by contact x (is_among (map (name_at p.nodes) p.delivered) x.id) refl
@@ -236,6 +257,12 @@ module _ (p : Parts) (s : IsState p) (n : ℕ) (y : Node) (h : Held) (at : slice
     free_wants = s.free_wants;
     hidden = s.hidden;
     shown = s.shown;
+    released = λ k x node a b.
+        let w = kept_at (λ (w : Node). record w { ending = Some ending.Invalid }) (λ (w : Node). w.group) (λ w. refl) p.nodes n k node b in
+        s.released k x w.0 a w.1
+        ∙ (λ i. left_in (sym (delivered_step p s (λ (v : Node). record v { ending = Some ending.Invalid }) (λ v. refl) n y h at there) i)
+        (shared_among p.held (sym (answers_kept p.nodes p.shares n ending.Invalid) i)) x (sym w.2 i));
+    unreleased = s.unreleased;
     ready = λ contact k x known here.
         s.ready contact k x known here
         ∙ (λ i. may_go p.table.levels (sym (delivered_step p s (λ (w : Node). record w { ending = Some ending.Invalid }) (λ w. refl) n y h at there) i)

@@ -1,5 +1,5 @@
 -- Changes of the table of what is due: look-ups, and room.
-use Rattle.std.proofs.Common.{◌≡◌, ℕ, zero, suc, ◌+◌, ◌-◌, ◌<◌, ◌≤◌, max, Bool, true, false, nat_eq, List, [], ◌∷◌, ◌++◌, length, map, set, replicate, slice_index_or, refl, sym, ◌∙◌, ap, subst, arith, eqb-true, length-append, Result, Ok, Err, OnOk, OnErr}
+use Rattle.std.proofs.Common.{◌≡◌, ℕ, zero, suc, ◌+◌, ◌-◌, ◌<◌, ◌≤◌, max, Bool, true, false, nat_eq, List, [], ◌∷◌, ◌++◌, Option, None, length, map, set, replicate, slice_index_or, refl, sym, ◌∙◌, ap, subst, arith, eqb-true, length-append, Result, Ok, Err, OnOk, OnErr}
 use Rattle.std.proofs.lemmas.Bool.{false≢true}
 use Rattle.std.proofs.lemmas.List.{length-set, length-replicate}
 use Rattle.retry_table.specs.Table as retry
@@ -36,7 +36,7 @@ none_more d zero n = refl
 none_more d (suc k) zero = refl
 none_more d (suc k) (suc n) = none_more d k n
 
-padded : {A : Type 0} (xs : List A) (d : A) (k n : ℕ) → slice_index_or (xs ++ replicate k d) n d ≡ slice_index_or xs n d
+pub padded : {A : Type 0} (xs : List A) (d : A) (k n : ℕ) → slice_index_or (xs ++ replicate k d) n d ≡ slice_index_or xs n d
 padded [] d k n = none_more d k n
 padded (x ∷ xs) d k zero = refl
 padded (x ∷ xs) d k (suc n) = padded xs d k n
@@ -59,6 +59,7 @@ wants_room_is space table contact = at_map (λ (w : retry.WantedFromContact). w.
 pub record SameKept (old new : retry.Table) : Type 0 where
   pub rows : (contact n : ℕ) → retry.kept_at new contact n ≡ retry.kept_at old contact n
   pub wants : (contact : ℕ) → (retry.wants_of new contact).ids ≡ (retry.wants_of old contact).ids
+  pub groups : (n : ℕ) → retry.group_at new n ≡ retry.group_at old n
 
 module _ (old new : retry.Table) (contact numbers room : ℕ) (r : retry.ReservesRows old new contact numbers room) where
   pub same_reserved : SameKept old new
@@ -71,6 +72,7 @@ module _ (old new : retry.Table) (contact numbers room : ℕ) (r : retry.Reserve
     wants = λ c. either c contact
         (λ e. ap (λ x. (retry.wants_of new x).ids) e ∙ (ap (λ (w : retry.WantedFromContact). w.ids) r.wants ∙ ap (λ x. (retry.wants_of old x).ids) (sym e)))
         (λ apart. ap (λ (w : retry.WantedFromContact). w.ids) (r.other_wants c apart));
+    groups = λ n. ap (λ (gs : List (Option ℕ)). slice_index_or gs n None) r.groups;
   }
 
   reserved_length : length (retry.rows_of new contact) ≡ length (retry.rows_of old contact) + (numbers - length (retry.rows_of old contact))
@@ -130,7 +132,7 @@ no_less (Ok x) old new contact numbers room r e = record {
   wants = more_wants old new contact numbers room r;
 }
 no_less (Err x) old new contact numbers room r e = subst (λ (t : retry.Table). NoLess old t) (sym e) (record {
-  same = record { rows = λ c n. refl; wants = λ c. refl };
+  same = record { rows = λ c n. refl; wants = λ c. refl; groups = λ n. refl };
   rows = λ c. omega arith;
   wants = λ c. omega arith;
 })

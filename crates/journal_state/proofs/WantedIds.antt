@@ -25,6 +25,7 @@ unwants_none t id = record {
   wants = λ contact below. absurd (omega arith);
   beyond = λ contact beyond. refl;
   room = λ contact. refl;
+  groups = refl;
 }
 
 pub unwants_more : (k : ℕ) (old mid new : retry.Table) (id : Id) → UnwantsBelow k old mid id
@@ -40,6 +41,7 @@ unwants_more k old mid new id u c = record {
       (λ e. ap (λ x. (retry.wants_of new x).room) e
       ∙ (ap (λ (w : retry.WantedFromContact). w.room) c.here ∙ (u.room k ∙ ap (λ x. (retry.wants_of old x).room) (sym e))))
       (λ apart. ap (λ (w : retry.WantedFromContact). w.room) (c.others contact apart) ∙ u.room contact);
+  groups = c.groups ∙ u.groups;
 }
   where
     less : (a b : ℕ) → a < b + 1 → (a ≡ b → ⊥) → a < b
@@ -52,7 +54,7 @@ unwants_more k old mid new id u c = record {
 -- ---- ids taken from one contact
 
 pub ids_none : (t : retry.Table) (contact : ℕ) → retry.ChangesWants t t contact (record (retry.wants_of t contact) { ids = without_each [] (retry.wants_of t contact).ids })
-ids_none t contact = record { here = refl; others = λ other apart. refl; rows = refl }
+ids_none t contact = record { here = refl; others = λ other apart. refl; rows = refl; groups = refl }
 
 each_more : (xs : List Id) (x : Id) (ids : List Id) → without_each (xs ++ x ∷ []) ids ≡ without x (without_each xs ids)
 each_more [] x ids = refl
@@ -69,6 +71,7 @@ ids_more old mid new contact xs x a b = record {
       ∙ ap (λ (ids : List Id). record (retry.wants_of old contact) { ids = ids }) (sym (each_more xs x (retry.wants_of old contact).ids)));
   others = λ other apart. b.others other apart ∙ a.others other apart;
   rows = b.rows ∙ a.rows;
+  groups = b.groups ∙ a.groups;
 }
 
 pub ids_of_wants : (old new : retry.Table) (contact : ℕ) (w : retry.WantedFromContact) → retry.ChangesWants old new contact w → (retry.wants_of old contact).room ≤ w.room + 1
@@ -78,6 +81,7 @@ ids_of_wants old new contact w c room = record {
   room = subst (λ n. (retry.wants_of old contact).room ≤ n + 1) (sym (ap (λ (x : retry.WantedFromContact). x.room) c.here)) room;
   others = c.others;
   rows = c.rows;
+  groups = c.groups;
 }
 
 -- ---- the facts
@@ -129,6 +133,7 @@ module _ (p : Parts) (s : IsState p) (contact : ℕ) (ids : List Id) (t : retry.
       (λ c n. ap (λ (x : retry.KeptRow). x.ready) (kept_by_ids c n))
       (λ c n beyond. kept_by_ids c n ∙ s.free_rows c n beyond)
       (λ c beyond. ap (λ (w : retry.WantedFromContact). w.ids) (k.others c (λ e. omega arith)) ∙ s.free_wants c beyond)
+      (λ n. ap (λ (gs : List (Option ℕ)). slice_index_or gs n None) k.groups)
 
   pub ids_facts : facts_of (record p { retry = t; space = p.space }) ≡ record (facts_of p) { wanted = fin_map.insert (wants_in p.retry p.table.contacts) contact ids }
   ids_facts = λ i. record (facts_of p) {

@@ -7,11 +7,12 @@ use Rattle.retry_table.specs.Table as retry
 abbrev pub goes_to : LevelMap → Id → Bool → ℕ → Bool
 goes_to levels group outgoing contact = is_level_shared (level_at levels contact group) && outgoing
 
--- there may be more room; the same is kept of every message, and the same ids are wanted
+-- there may be more room; the same is kept of every message, it is released or not as it was, and the same ids are wanted
 pub record GrowsRoom (old new : retry.Table) : Type 0 where
   pub kept : (contact n : ℕ) → retry.kept_at new contact n ≡ retry.kept_at old contact n
   pub wants : (contact : ℕ) → (retry.wants_of new contact).ids ≡ (retry.wants_of old contact).ids
   pub room : (contact : ℕ) → length (retry.rows_of old contact) ≤ length (retry.rows_of new contact)
+  pub groups : (n : ℕ) → retry.group_at new n ≡ retry.group_at old n
 
 -- there is room for the rows of all numbers below that one at each of the contacts that a message goes to
 abbrev pub HasRowsAtContacts : retry.Table → (ℕ → Bool) → ℕ → ℕ → Type 0

@@ -6,7 +6,6 @@ pub mod Fates
 pub mod Room
 pub mod Marks
 pub mod Unwanted
-pub mod Levelling
 pub mod Parts
 pub mod Whole
 pub mod Sound

@@ -10,6 +10,7 @@ pub record UnwantsBelow (bound : ℕ) (old new : Table) (id : Id) : Type 0 where
   pub wants : (contact : ℕ) → contact < bound → (wants_of new contact).ids ≡ without id (wants_of old contact).ids
   pub beyond : (contact : ℕ) → bound ≤ contact → (wants_of new contact).ids ≡ (wants_of old contact).ids
   pub room : (contact : ℕ) → (wants_of new contact).room ≡ (wants_of old contact).room
+  pub groups : new.groups ≡ old.groups
 
 -- these ids are wanted from one contact, room for one was taken at most, and all else is as it was
 pub record ChangesIds (old new : Table) (contact : ℕ) (ids : List Id) : Type 0 where
@@ -17,3 +18,4 @@ pub record ChangesIds (old new : Table) (contact : ℕ) (ids : List Id) : Type 0
   pub room : (wants_of old contact).room ≤ (wants_of new contact).room + 1
   pub others : (other : ℕ) → other ≢ contact → wants_of new other ≡ wants_of old other
   pub rows : new.rows ≡ old.rows
+  pub groups : new.groups ≡ old.groups

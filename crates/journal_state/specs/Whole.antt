@@ -1,5 +1,5 @@
 -- What contracts see of the state of a journal, and what its parts keep.
-use Rattle.std.specs.Prelude.{◌≡◌, ℕ, ◌<◌, ◌≤◌, Bool, false, true, ◌&&◌, ◌||◌, List, [], length, map, nat_lt, Option, None, Some, is_some, slice_get, slice_index_or, refl}
+use Rattle.std.specs.Prelude.{◌≡◌, ℕ, ◌<◌, ◌≤◌, Bool, false, true, ◌&&◌, ◌||◌, cond, List, [], length, map, nat_lt, Option, None, Some, is_some, slice_get, slice_index_or, refl}
 use Rattle.std.specs.Coded.{Coded, code_by, coded×}
 use Rattle.std.specs.List.{list_all}
 use Rattle.sync_rules.specs.declared.answers.Judgement.{Judgement}
@@ -44,6 +44,15 @@ abbrev pub may_go : LevelMap → List Id → List Id → ℕ → Held → Bool
 may_go levels delivered shared contact h =
     is_among delivered h.id && (is_level_shared (level_at levels contact h.message.group) && (is_author h.origin || is_among shared h.id))
 
+-- a message may be sent to others as far as the message and its origin go: it is delivered, and it was written here or its judgement
+-- lets it be sent on
+abbrev pub may_leave : List Id → List Id → Held → Bool
+may_leave delivered shared h = is_among delivered h.id && (is_author h.origin || is_among shared h.id)
+
+-- the group in which such a message is released
+abbrev pub left_in : List Id → List Id → Held → ℕ → Option ℕ
+left_in delivered shared h group = cond (may_leave delivered shared h) (Some group) None
+
 -- the id of a held message
 abbrev pub id_at : List Held → ℕ → Id
 id_at held n = slice_index_or (map (λ h. h.id) held) n []
@@ -78,6 +87,10 @@ pub record IsState (p : Parts) : Type 0 where
   pub hidden : (contact : ℕ) (group : Id) → p.table.contacts ≤ contact → level_at p.table.levels contact group ≡ level.Invisible
   -- a group that is not Invisible to some contact is known
   pub shown : (contact : ℕ) (group : Id) → is_invisible (level_at p.table.levels contact group) ≡ false → is_some (group_at p.table.groups group) ≡ true
+  -- the messages that may be sent to others are released, each in its group, and no others
+  pub released : (n : ℕ) (h : Held) (node : Node) → slice_get p.held n ≡ Some h → slice_get p.nodes n ≡ Some node
+      → retry.group_at p.retry n ≡ left_in (map (name_at p.nodes) p.delivered) (shared_among p.held (answers_of p.nodes p.shares)) h node.group
+  pub unreleased : (n : ℕ) → length p.held ≤ n → retry.group_at p.retry n ≡ None
   -- a row says that its message may go to its contact where it may
   pub ready : (contact n : ℕ) (h : Held) → contact < MAX_CONTACTS → slice_get p.held n ≡ Some h
       → (retry.kept_at p.retry contact n).ready

@@ -113,6 +113,7 @@ impl State {
         ensures err { OnErr result (self.new.facts ≡ self.old.facts) }
         ensures knows { KnowsJudgements (C.meaning clients.now) self.new }
     {
+        self.bring_for(batch.entries());
         let id = id_brought(batch.entries());
         if !self.allows_batch(alloc, clients, &batch, id)? {
             return Ok(false);

@@ -4,7 +4,8 @@ ghost use Rattle.sync_rules.specs.declared.limits.TheConstants.{MAX_CONTACTS};
 ghost use Rattle.sync_rules.specs.Clients.{Meaning};
 ghost use Rattle.sync_rules.specs.Sessions.{is_author};
 ghost use Rattle.sync_rules.specs.Steps.{next};
-ghost use Rattle.retry_table.specs.Table.{rows_of};
+ghost use Rattle.std.specs.Prelude.{None, cond, slice_set};
+ghost use Rattle.retry_table.specs.Table.{group_at, rows_of};
 ghost use Rattle.journal_state.specs.Delivery.{goes_to, GrowsRoom, HasRowsAtContacts, ReadiesOne, ReadiesMessage};
 ghost use Rattle.journal_state.specs.Taking.{moved};
 ghost use Rattle.journal_state.specs.Whole.{id_at, KnowsJudgements};
@@ -72,10 +73,21 @@ fn reserve_rows(
     Ok(())
 }
 
+/// Makes room for the release of all messages of numbers below `numbers`.
+fn reserve_release(retry: &mut Retry, numbers: u32) -> Result<(), AllocError>
+    ensures same { GrowsRoom retry.old retry.new }
+    ensures rows { retry.new.rows ≡ retry.old.rows }
+    ensures room { OnOk result (numbers ≤ length retry.new.groups) }
+{
+    retry.reserve_groups(in_steps(numbers))?;
+    Ok(())
+}
+
 /// Makes a message ready for a contact, if it goes there.
 fn ready_one(retry: &mut Retry, contact: u8, n: u32, goes: bool)
     requires { goes ≡ true → n < length (rows_of retry.old contact) }
-    ensures { ReadiesOne retry.old retry.new contact n goes }
+    ensures readies { ReadiesOne retry.old retry.new contact n goes }
+    ensures groups { retry.new.groups ≡ retry.old.groups }
 {
     if !goes {
         return;
@@ -84,18 +96,56 @@ fn ready_one(retry: &mut Retry, contact: u8, n: u32, goes: bool)
 }
 
 /// Makes a message ready for each contact that is known and that it goes to.
-fn make_ready(retry: &mut Retry, table: &Levels, group: &GroupId, outgoing: bool, n: u32)
+fn ready_each(retry: &mut Retry, table: &Levels, group: &GroupId, outgoing: bool, n: u32)
     requires few { table.now.contacts ≤ MAX_CONTACTS }
     requires rows { HasRowsAtContacts retry.old (goes_to table.now.levels group.now outgoing)
         table.now.contacts (n + 1) }
-    ensures { ReadiesMessage retry.old retry.new (goes_to table.now.levels group.now outgoing)
-        table.now.contacts n }
+    ensures readies { ReadiesMessage retry.old retry.new
+        (goes_to table.now.levels group.now outgoing) table.now.contacts n }
+    ensures groups { retry.new.groups ≡ retry.old.groups }
 {
     for place in 0..table.contacts() {
         let contact = place as u8;
         let goes = goes_to(table, group, outgoing, contact);
         ready_one(retry, contact, n, goes);
     }
+}
+
+/// Releases a message in the group of this number, if it may be sent to others.
+fn release_one(retry: &mut Retry, n: u32, number: u32, outgoing: bool)
+    requires room { n < length retry.old.groups }
+    requires new { group_at retry.old n ≡ None }
+    ensures { retry.new ≡ record retry.old {
+      groups = cond outgoing (slice_set retry.old.groups n (Some number)) retry.old.groups;
+    } }
+{
+    if outgoing {
+        retry.release(n, number);
+    }
+}
+
+/// Makes a message ready for each contact that is known and that it goes to, and releases it in the
+/// group of this number, if it may be sent to others.
+fn make_ready(
+    retry: &mut Retry,
+    table: &Levels,
+    group: &GroupId,
+    number: u32,
+    outgoing: bool,
+    n: u32,
+)
+    requires few { table.now.contacts ≤ MAX_CONTACTS }
+    requires rows { HasRowsAtContacts retry.old (goes_to table.now.levels group.now outgoing)
+        table.now.contacts (n + 1) }
+    requires room { n < length retry.old.groups }
+    requires new { group_at retry.old n ≡ None }
+    ensures readies { ReadiesMessage retry.old retry.new
+        (goes_to table.now.levels group.now outgoing) table.now.contacts n }
+    ensures groups { retry.new.groups ≡ cond outgoing
+        (slice_set retry.old.groups n (Some number)) retry.old.groups }
+{
+    ready_each(retry, table, group, outgoing, n);
+    release_one(retry, n, number, outgoing);
 }
 
 impl State {
@@ -112,14 +162,16 @@ impl State {
         ensures err { OnErr result (self.new.facts ≡ self.old.facts) }
     {
         let group = self.messages.message(n).group();
+        let number = self.table.group(&group).unwrap();
         let outgoing = is_open(self.messages.origin(n), self.shares[n as usize]);
         let held = self.messages.len();
         // No group has a level for a contact that is not known.
         reserve_rows(&mut self.retry, &self.table, &group, outgoing, held)?;
+        reserve_release(&mut self.retry, held)?;
         self.delivered.reserve(1)?;
         self.graph.apply(Step::Deliver(n));
         self.delivered.push(n).unwrap();
-        make_ready(&mut self.retry, &self.table, &group, outgoing, n);
+        make_ready(&mut self.retry, &self.table, &group, number, outgoing, n);
         Ok(())
     }
 }

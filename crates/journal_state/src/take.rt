@@ -46,6 +46,7 @@ impl State {
         ensures knows { (clients : Meaning) → KnowsJudgements clients self.old → KnowsJudgements clients self.new }
     {
         self.take_batch(batch, id);
+        self.bring_all();
     }
 
     /// The same also of a batch that begins a brief account or keeps a message.

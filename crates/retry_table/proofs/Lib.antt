@@ -1,4 +1,6 @@
 pub mod BlockLaws
+pub mod ContactLaws
 pub mod Follows
 pub mod Listing
+pub mod Said
 pub mod WantedIds

@@ -1,3 +1,5 @@
 pub mod Table
 pub mod Due
 pub mod Queues
+pub mod Turns
+pub mod Contacts

@@ -5,7 +5,9 @@ use Rattle.std.specs.List.{position_from}
 use Rattle.due_tree.specs.Due.{is_due}
 use Rattle.due_tree.specs.Cells.{lesser}
 use Rattle.retry_table.specs.Table.{KeptRow, kept_in}
-use Rattle.retry_table.specs.Due.{may_be_sent}
+use Rattle.retry_table.specs.Due.{may_be_sent, is_sent_at, is_offered_at}
+use Rattle.retry_table.specs.declared.rows.Sought.{Sought}
+use Rattle.retry_table.specs.declared.rows.Sought.TheVariants as sought
 use Rattle.retry_table.specs.declared.blocks.Times.{Times}
 use Rattle.retry_table.specs.declared.blocks.Times.TheVariants as times
 
@@ -71,3 +73,8 @@ pub record AreQueues (rows : List KeptRow) (messages : List (Option ℕ)) (asked
   pub by_request : HasPassingRows is_awaited rows asked
   pub by_offer : AreLeast times.ToOffer rows offers
   pub by_debt : HasPassingRows (λ kept. kept.row.owed) rows owed
+
+-- whether a row is sought
+abbrev pub is_sought : Sought → KeptRow → Bool
+is_sought (sought.Message mode now) kept = is_sent_at mode now kept
+is_sought (sought.Offer now) kept = is_offered_at now kept

@@ -2,7 +2,9 @@
 //! by a walk.
 #![tactic(auto)]
 
+mod all_rows;
 mod blocks;
+mod contact_rows;
 mod places;
 mod queues;
 mod retry;

@@ -71,6 +71,14 @@ impl Queues {
         Ok(())
     }
 
+    /// The number of rows.
+    pub(crate) fn len(&self) -> usize
+        ensures many { result ≡ length self.now }
+        ensures few { result < 2 ^ 32 }
+    {
+        self.rows.len()
+    }
+
     /// What is kept at a number, also where there is no row.
     pub(crate) fn get(&self, n: usize) -> KeptRow
         ensures { result ≡ kept_in self.now n }

@@ -1,14 +1,16 @@
 //! `Retry`.
 ghost use Rattle.std.specs.Prelude.{◌≡◌, ◌+◌, ◌-◌, ◌^◌, ◌<◌, ◌≤◌, ◌++◌, ◌∷◌, [], ℕ, true, false, IfOk};
-ghost use Rattle.std.specs.Prelude.{OnOk, OnErr, Some, length, slice_get, slice_index_or};
+ghost use Rattle.std.specs.Prelude.{OnOk, OnErr, None, Some, length, replicate, slice_get, slice_index_or};
+ghost use Rattle.std.specs.Prelude.{slice_set};
 ghost use Rattle.sync_rules.specs.Lists.{is_among, without};
 ghost use Rattle.sync_rules.specs.Facts.{row_seen, row_acked, row_asked, row_sent, row_offered};
 ghost use Rattle.retry_table.specs.Table.{no_wants, rows_of, wants_of, kept_at, with_row};
 ghost use Rattle.retry_table.specs.Table.{with_ready, row_owed, IsEmpty, KeepsRow, ChangesWants};
+ghost use Rattle.retry_table.specs.Table.{group_at, SetsGroup};
 ghost use Rattle.retry_table.specs.Table.{ReservesRows, row_heard, row_restored, tried_of};
 ghost use Rattle.retry_table.specs.Due.{owed_in, message_in, offers_in, requests_in};
 
-use crate::queues::Queues;
+use crate::all_rows::AllRows;
 use crate::rows::KeptRow;
 use crate::wanted::Wanted;
 use std::alloc::{AllocError, Global};
@@ -23,7 +25,7 @@ use sync_rules::{MAX_CONTACTS, Mode, Tried};
 /// more of them.
 #[derive(Drop)]
 pub struct Retry {
-    rows: Vec<Queues>,
+    rows: AllRows,
     wants: Vec<Wanted>,
 }
 
@@ -34,22 +36,14 @@ impl Model for Retry {
 
     ghost Value = { Table };
 
-    ghost view = { λ t. record { rows = t.rows.items; wants = t.wants.items } };
+    ghost view = { λ t. record {
+      rows = t.rows.rows;
+      wants = t.wants.items;
+      groups = t.rows.groups;
+    } };
 
-    ghost invariant = { λ t. (length t.rows.items ≡ MAX_CONTACTS)
+    ghost invariant = { λ t. (length t.rows.rows ≡ MAX_CONTACTS)
         × (length t.wants.items ≡ MAX_CONTACTS) };
-}
-
-/// The rows of all contacts: none.
-fn no_rows(alloc: Global) -> Result<Vec<Queues>, AllocError>
-    ensures rows { IfOk result (λ v. (contact : ℕ) → slice_index_or v.items contact [] ≡ []) }
-    ensures len { IfOk result (λ v. length v.items ≡ MAX_CONTACTS) }
-{
-    let mut rows = Vec::new(alloc);
-    for _i in 0..MAX_CONTACTS {
-        rows.push(Queues::new(alloc)?)?;
-    }
-    Ok(rows)
 }
 
 /// The wanted ids of all contacts: none.
@@ -71,7 +65,7 @@ impl Retry {
     pub fn new(alloc: Global, hasher: RandomState) -> Result<Retry, AllocError>
         ensures { IfOk result IsEmpty }
     {
-        let rows = no_rows(alloc)?;
+        let rows = AllRows::new(alloc)?;
         let wants = no_wants(alloc, hasher)?;
         Ok(Retry { rows, wants })
     }
@@ -86,7 +80,7 @@ impl Retry {
         let place = contact as usize;
         let room = self.wants[place].room();
         self.wants[place].reserve(wants)?;
-        match self.rows[place].reserve(numbers) {
+        match self.rows.reserve(contact, numbers) {
             Ok(()) => Ok(()),
             Err(error) => {
                 self.wants[place].lower(room);
@@ -95,19 +89,60 @@ impl Retry {
         }
     }
 
-    /// What is kept of a message, also where there is no row.
-    fn row(&self, contact: u8, n: u32) -> KeptRow
-        ensures { result ≡ kept_at self.now contact n }
+    /// Makes room for `release` of all messages below `numbers`, and never takes room away. It takes
+    /// memory; after an error all is as before.
+    pub fn reserve_groups(&mut self, numbers: u32) -> Result<(), AllocError>
+        ensures ok { OnOk result (self.new ≡ record self.old {
+          groups = self.old.groups ++ replicate (numbers - length self.old.groups) None;
+        }) }
+        ensures err { OnErr result (self.new ≡ self.old) }
     {
-        self.rows[contact as usize].get(n as usize)
+        self.rows.reserve_groups(numbers)
     }
 
-    /// Keeps this of a message.
+    /// The message of this number was released: from now on it is among those of its group of which
+    /// `set_group` says whether they are ready. It was not released before.
+    pub fn release(&mut self, n: u32, group: u32)
+        requires room { n < length self.old.groups }
+        requires new { group_at self.old n ≡ None }
+        ensures { self.new ≡ record self.old { groups = slice_set self.old.groups n (Some group) } }
+    {
+        self.rows.release(n, group);
+    }
+
+    /// All messages that were released in the group are ready for the contact, or not. It costs no
+    /// more than a note of it.
+    pub fn set_group(&mut self, contact: u8, group: u32, ready: bool)
+        requires { (n : ℕ) → group_at self.old n ≡ Some group
+            → n < length (rows_of self.old contact) }
+        ensures { SetsGroup self.old self.new contact group ready }
+    {
+        self.rows.set_group(contact, group, ready);
+    }
+
+    /// Brings the contact's queues in order behind calls of `set_group`: until then each question
+    /// for what is due to the contact goes over its rows. Nothing that is seen changes, and it takes
+    /// no memory.
+    pub fn bring(&mut self, contact: u8)
+        ensures { self.new ≡ self.old }
+    {
+        self.rows.bring(contact);
+    }
+
+    /// What is kept of a message, also where there is no row, but for whether it is ready.
+    fn row(&self, contact: u8, n: u32) -> KeptRow
+        ensures { result.row ≡ (kept_at self.now contact n).row }
+    {
+        self.rows.row(contact, n)
+    }
+
+    /// Keeps this of a message but for whether it is ready, which stays.
     fn put(&mut self, contact: u8, n: u32, row: KeptRow)
         requires { n < length (rows_of self.old contact) }
-        ensures { KeepsRow self.old self.new contact n row }
+        ensures { KeepsRow self.old self.new contact n
+            (record (kept_at self.old contact n) { row = row.row }) }
     {
-        self.rows[contact as usize].put(n as usize, row);
+        self.rows.put(contact, n, row);
     }
 
     /// An acknowledgement of the message is owed to the contact.
@@ -200,7 +235,7 @@ impl Retry {
         requires { n < length (rows_of self.old contact) }
         ensures { KeepsRow self.old self.new contact n (with_ready true (kept_at self.old contact n)) }
     {
-        self.put(contact, n, self.row(contact, n).make_ready(true));
+        self.rows.set_ready(contact, n, true);
     }
 
     /// The message is not ready.
@@ -209,7 +244,7 @@ impl Retry {
         ensures { KeepsRow self.old self.new contact n
             (with_ready false (kept_at self.old contact n)) }
     {
-        self.put(contact, n, self.row(contact, n).make_ready(false));
+        self.rows.set_ready(contact, n, false);
     }
 
     /// Puts an id at the end of those wanted from the contact.
@@ -258,7 +293,7 @@ impl Retry {
     pub fn owed(&self, contact: u8) -> Result<Vec<u32>, AllocError>
         ensures { IfOk result (λ v. v.items ≡ owed_in (rows_of self.now contact)) }
     {
-        self.rows[contact as usize].owed()
+        self.rows.owed(contact)
     }
 
     /// The ids wanted from the contact, in order, at most 1,536. Answers an error where there is no
@@ -275,7 +310,7 @@ impl Retry {
     pub fn due_message(&self, contact: u8, mode: Mode, now: u64) -> Option<u32>
         ensures { result ≡ message_in mode now (rows_of self.now contact) }
     {
-        self.rows[contact as usize].due_message(mode, now)
+        self.rows.due_message(contact, mode, now)
     }
 
     /// The numbers of the messages that are to be offered to the contact at `now`, in order, at
@@ -284,7 +319,7 @@ impl Retry {
     pub fn due_offers(&self, contact: u8, now: u64) -> Result<Vec<u32>, AllocError>
         ensures { IfOk result (λ v. v.items ≡ offers_in now (rows_of self.now contact)) }
     {
-        self.rows[contact as usize].due_offers(now)
+        self.rows.due_offers(contact, now)
     }
 
     /// Whether an id is wanted from the contact.

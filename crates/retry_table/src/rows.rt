@@ -5,14 +5,22 @@ ghost use Rattle.sync_rules.specs.Facts.{row_asked, row_sent, row_offered};
 ghost use Rattle.retry_table.specs.Table.{no_kept, with_row, with_ready, row_owed, row_restored};
 ghost use Rattle.retry_table.specs.Table.{tried_of};
 ghost use Rattle.retry_table.specs.Due.{may_be_sent};
-ghost use Rattle.retry_table.specs.Queues.{message_place, is_awaited, offer_place};
+ghost use Rattle.retry_table.specs.Queues.{message_place, is_awaited, is_sought, offer_place};
+ghost use Rattle.sync_rules.specs.Sessions.{is_ripe};
 
 use std::marker::Model;
 use sync_ids::MessageId;
-use sync_rules::Tried;
+use sync_rules::{Mode, Tried};
 
 /// The most tries that are counted.
 const MOST_TRIES: u8 = 64;
+
+/// What is sought among the rows: a message to be sent, or one to be offered, at a time.
+#[derive(Clone, Copy)]
+pub(crate) enum Sought {
+    Message(Mode, u64),
+    Offer(u64),
+}
 
 /// What is kept of one message for one contact. Contracts see the row, and whether the message is
 /// ready.
@@ -187,6 +195,13 @@ impl KeptRow {
     }
 
     /// Whether the message is ready.
+    pub(crate) fn is_ready(self) -> bool
+        ensures { result ≡ self.ready }
+    {
+        self.ready
+    }
+
+    /// The message is ready or not.
     pub(crate) fn make_ready(mut self, ready: bool) -> KeptRow
         ensures { result ≡ with_ready ready self }
     {
@@ -235,5 +250,25 @@ impl KeptRow {
         ensures { result ≡ self.row.owed }
     {
         self.owed
+    }
+
+    /// Whether its time has come, or the contact asked for it in interactive mode.
+    fn is_ripe(self, mode: Mode, now: u64) -> bool
+        ensures { result ≡ is_ripe mode now self.row }
+    {
+        match mode {
+            Mode::Interactive => self.asked,
+            Mode::Batch => self.expiry <= now,
+        }
+    }
+
+    /// Whether it is sought.
+    pub(crate) fn is_sought(self, sought: Sought) -> bool
+        ensures { result ≡ is_sought sought self }
+    {
+        match sought {
+            Sought::Message(mode, now) => self.is_open() && self.is_ripe(mode, now),
+            Sought::Offer(now) => self.is_open() && (!self.asked && self.expiry <= now),
+        }
     }
 }

@@ -22,10 +22,7 @@ returns-in-Err-clause-err c =
     let t = c.self.inside in
     let contact = c.args.contact in
     let within : contact < length t.wants.items = omega (arith, c.self.invariant.1) in
-    let rows : set t.rows.items contact c.reserve-2.new.self ≡ t.rows.items =
-    ap (set t.rows.items contact) c.in-Err.ensures.err ∙ put_back t.rows.items contact c.index_mut-2.result.now c.index_mut-2.ensures.value in
     let wants : set (set t.wants.items contact c.reserve.new.self) contact c.lower.new.self ≡ t.wants.items =
     restored t.wants.items contact c.args.wants c.room-room.result c.index.result.now c.index_mut.result.now c.reserve.new.self c.index_mut-in-Err.result.now c.lower.new.self
     within c.index.ensures c.index_mut.ensures.value c.in_ok-reserve.ensures.ok c.index_mut-in-Err.ensures.value c.room-room.ensures c.lower.ensures in
-    let seen : Table = record { rows = t.rows.items; wants = t.wants.items } in
-    (λ j. record { rows = rows j; wants = wants j }) ∙ c.self.view_is
+    (λ j. record { rows = (c.in-Err.ensures.err j).rows; wants = wants j; groups = (c.in-Err.ensures.err j).groups }) ∙ c.self.view_is

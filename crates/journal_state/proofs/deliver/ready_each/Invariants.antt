@@ -1,7 +1,7 @@
 use Rattle.std.proofs.Common.{◌≡◌, ◌≢◌, ℕ, ◌<◌, ◌≤◌, true, cond}
 use Rattle.retry_table.specs.Table as retry
 use Rattle.journal_state.specs.Delivery.{goes_to}
-use Rattle.journal_state.proofs.deliver.make_ready.Given as goal
+use Rattle.journal_state.proofs.deliver.ready_each.Given as goal
 
 abbrev pub invariant-loop-place : goal.invariant-loop-place
 invariant-loop-place l = record {
@@ -11,4 +11,5 @@ invariant-loop-place l = record {
   left : (contact : ℕ) → l.place ≤ contact → retry.rows_of l.retry contact ≡ retry.rows_of l.fn.retry contact;
   apart : (contact k : ℕ) → k ≢ l.n → retry.kept_at l.retry contact k ≡ retry.kept_at l.fn.retry contact k;
   wants : l.retry.wants ≡ l.fn.retry.wants;
+  groups : l.retry.groups ≡ l.fn.retry.groups;
 }

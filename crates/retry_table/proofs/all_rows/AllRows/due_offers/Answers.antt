@@ -1,0 +1,21 @@
+use Rattle.std.proofs.Common.{◌≡◌, ℕ, ◌+◌, ◌-◌, ◌<◌, ◌≤◌, ◌^◌, ◌++◌, Bool, List, [], Option, None, Some, IfOk, length, map, get_or, set, replicate, sym, ap, subst, ◌∙◌, arith}
+use Rattle.std.proofs.lemmas.List.{length-set}
+use Rattle.retry_table.specs.declared.contact_rows.ContactRows.{ContactRows}
+use Rattle.retry_table.specs.declared.contact_rows.Released.{Released}
+use Rattle.retry_table.specs.Contacts.{AreContacts, IsSaidFor}
+use Rattle.retry_table.specs.Due.{message_in, offers_in, owed_in}
+use Rattle.retry_table.specs.Table.{KeptRow, RowsTable, kept_in, rows_at, with_numbers, with_ready, with_rows}
+use Rattle.retry_table.specs.Turns.{as_said, group_of, said_at, turns_in, word_of}
+use Rattle.retry_table.proofs.ContactLaws.{seen_at, seen_of}
+use Rattle.retry_table.proofs.all_rows.AllRows.due_offers.Goals as goal
+
+pub returns : goal.returns
+returns c =
+    let t = c.self.inside in
+    let x : ContactRows = c.index.result.now in
+    let within : c.args.contact < length t.contacts.items = omega (arith, c.self.invariant.many) in
+    subst (λ (numbers : List ℕ). IfOk c.due_offers.result (λ v. v.items ≡ numbers))
+    (ap (λ (r : List (Option Released)). offers_in c.args.now (seen_of r x)) c.as_slice.ensures.value
+    ∙ (ap (λ (rows : List KeptRow). offers_in c.args.now rows) (sym (seen_at t.released.items t.contacts.items c.args.contact x within c.index.ensures))
+    ∙ ap (λ (v : RowsTable). offers_in c.args.now (rows_at v c.args.contact)) c.self.view_is))
+    c.due_offers.ensures
