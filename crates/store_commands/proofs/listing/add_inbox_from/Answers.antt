@@ -11,8 +11,14 @@ delivered-preserved c =
     let f = c.args.store.now.state.facts in
     let part = drop c.args.from f.delivered in
     let within : c.delivered.k < length part =
-    omega (arith, c.delivered-test.true, c.min-shown.ensures, c.saturating_sub.ensures,
-    c.delivered-2.ensures, length-drop c.args.from f.delivered) in
+    omega (
+      arith,
+      c.delivered-test.true,
+      c.min-shown.ensures,
+      c.saturating_sub.ensures,
+      c.delivered-2.ensures,
+      length-drop c.args.from f.delivered,
+    ) in
     more_lines (λ id. delivered_line (held_at f.held id)) part c.delivered.k
     (string_bytes c.args.to.now) _ _ within c.delivered.invariant
     (λ id e. c.in_ok-add_delivered.ensures id
