@@ -32,12 +32,12 @@ import sys
 
 from audits import Audited, rows as audit_rows
 from digests import message_id
-from journal import SHORT, WHOLE, respelled
+from journal import SHORT, WHOLE, frames, respelled
 from migration import migrated
 from old_stores import NOTES, SCENES as OLD_SCENES, THREADS, adds_contact, bare, heard, held, looks_at, show_text
-from run_model import BATCH, VISIBLE, message_record
+from run_model import BATCH, Store, VISIBLE, calls_of_clear, message_record
 from sharing import ALL_CLIENTS, NOTE, SCENES as SHARING_SCENES, SEEDS, THREAD, Person, agrees_at_length, agrees_at_random
-from store_file import CLOSED, framed, header
+from store_file import CLOSED, OPEN, framed, header
 
 FOLDER = os.path.dirname(os.path.abspath(__file__))
 CRATE = os.path.join(FOLDER, '..', 'crates', 'test_commands')
@@ -487,6 +487,41 @@ def play_migrated(text):
         text.tell('try', 'contact', Outcome(b'contact %d\n' % number, after=[(1, new[:-1] + framed(b'', [bytes([1, number])]))]))
 
 
+def left_at_each_call(second, new, frames, is_copied):
+    """What the other file reads as behind each call of a journal's being written anew that fails, in order: a migration, in which the
+    old frames are read and copied, or a compaction. Once its closed gate is on the disk, and before the write that opens it, the file is
+    cut to its first byte."""
+    shut = CLOSED + second[1:]
+    before = [second] * (3 if is_copied else 0)
+    gate = [second] + ([second, shut] if second[:1] in (b'', OPEN) else [])
+    clear = gate + [CLOSED] * (calls_of_clear(second) - len(gate))
+    frame = [CLOSED] * (6 if is_copied else APPEND)
+    return before + clear + [CLOSED] * 2 + frame * frames + [CLOSED] * is_copied + [CLOSED + new[1:], new]
+
+
+def play_taken_back(text):
+    """A migration and a compaction of which each call of the disk fails, over another file that is empty, and over an older journal."""
+    payloads = list(held(NOTE).batches)
+    first, older = (framed(header(WHOLE, generation), respelled(payloads, SHORT, WHOLE)) for generation in (2, 1))
+    new = framed(header(SHORT, 3), payloads)
+    store = Store(ALL_CLIENTS)
+    store.read(framed(header(SHORT, 2), payloads))
+    plain = store.files[0]
+    assert not list(store.journal.settling())
+    store.compact()
+    account = store.files[1]
+    scenes = (('contact', first, new, len(payloads), True), ('compact', plain, account, len(list(frames(account))), False))
+    for words, journal, anew, count, is_copied in scenes:
+        text.case('a journal that is written anew, and a call that fails: ' + words)
+        # a load syncs both files, reads two headers and the length, each frame by two calls, and the closed gate
+        load = 2 + 2 + 1 + 2 * len(list(frames(journal))) + 1
+        for second in (b'', older):
+            text.put_files(journal, second)
+            for call, left in enumerate(left_at_each_call(second, anew, count, is_copied)):
+                fault = Outcome(status=DISK_FAULT, err=b'disk fault\n', after=[(1, left)])
+                text.tell('try', words, fault, f'faildisk {load + call}')
+
+
 def play_settled(text):
     """A post that is crashed: what is left is settled by the next command that adds."""
     text.case('a post that is crashed, and settled')
@@ -547,6 +582,7 @@ def made():
     play_sharing(text)
     play_old(text)
     play_migrated(text)
+    play_taken_back(text)
     play_settled(text)
     play_cascade(text)
     play_audits(text)
