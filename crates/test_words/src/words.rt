@@ -172,6 +172,12 @@ fn show_def(
     add(rt, to, &[name, "+", major.as_str(), "+", descriptor]);
 }
 
+fn show_inbox_from(rt: &impl Abort, alloc: Global, from: u32, count: u32, to: &mut String) {
+    let from = decimal(rt, alloc, u64::from(from));
+    let count = decimal(rt, alloc, u64::from(count));
+    add(rt, to, &["inbox ", from.as_str(), "+", count.as_str()]);
+}
+
 // The command with its parts.
 fn show(rt: &impl Abort, alloc: Global, command: &Command, to: &mut String) {
     match command {
@@ -191,6 +197,7 @@ fn show(rt: &impl Abort, alloc: Global, command: &Command, to: &mut String) {
         Command::Post(group, timestamp) => show_post(rt, alloc, group, *timestamp, to),
         Command::Show => add(rt, to, &["show"]),
         Command::Inbox => add(rt, to, &["inbox"]),
+        Command::InboxFrom(from, count) => show_inbox_from(rt, alloc, *from, *count, to),
         Command::Body(id) => add(rt, to, &["body ", hex(rt, alloc, id).as_str()]),
         Command::Tree(group, from, count) => show_tree(rt, alloc, group, *from, *count, to),
         Command::Say(group, timestamp, join, name, major, descriptor) => {
@@ -321,6 +328,15 @@ static COMMANDS: [(&[&str], &str); 73] = [
     (&["show", "x"], "usage 1"),
     (&["inbox"], "inbox"),
     (&["inbox", "x"], "usage 1"),
+    (&["inbox", "0"], "usage 2"),
+    (&["inbox", "0", "0"], "inbox 0+0"),
+    (
+        &["inbox", "4294967295", "4294967295"],
+        "inbox 4294967295+4294967295",
+    ),
+    (&["inbox", "4294967296", "0"], "usage 1"),
+    (&["inbox", "0", "4294967296"], "usage 2"),
+    (&["inbox", "0", "1", "2"], "usage 3"),
     (&["compact"], "compact"),
     (&["compact", ""], "usage 1"),
     (&["audit"], "audit"),
