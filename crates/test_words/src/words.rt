@@ -273,7 +273,7 @@ const FRONT: &str = "tree 76ff4980d3b5f63962cee45401b6b1bb92efe989c27de4629aac92
 const END: &str =
     "tree 76ff4980d3b5f63962cee45401b6b1bb92efe989c27de4629aac92b18163e6e0+4294967295+4294967295";
 
-static COMMANDS: [(&[&str], &str); 73] = [
+static COMMANDS: [(&[&str], &str); 79] = [
     (&[], "usage 0"),
     (&[""], "usage 0"),
     (&["Try", "note", "d"], "usage 0"),
