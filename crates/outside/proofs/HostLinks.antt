@@ -22,10 +22,10 @@ use Rattle.outside.proofs.ClockSteps.{if_true, if_false}
 -- ---- counts
 
 pub raised_cause : {T E : Type 0} (link : ℕ) (old new : List ℕ) (e : E) → RaisesCount link old new → LinkCause {T = T} link (λ i. slice_index old i) (λ i. slice_index new i) (Err e)
-raised_cause link old new e r = record { later = r.later; failed = omega (arith, r.raised); others = r.others }
+raised_cause link old new e r = record { later = r.later; counts = r.raised; others = r.others }
 
 pub same_cause : {T E : Type 0} (link : ℕ) (old new : List ℕ) (t : T) → new ≡ old → LinkCause {E = E} link (λ i. slice_index old i) (λ i. slice_index new i) (Ok t)
-same_cause link old new t e = record { later = omega (arith, ap (λ l. slice_index l link) e); failed = tt; others = λ i _. ap (λ l. slice_index l i) e }
+same_cause link old new t e = record { later = omega (arith, ap (λ l. slice_index l link) e); counts = ap (λ l. slice_index l link) e; others = λ i _. ap (λ l. slice_index l i) e }
 
 -- ---- what was heard
 

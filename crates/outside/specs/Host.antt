@@ -1,20 +1,20 @@
 -- What each call on a host does to its links.
-use Rattle.std.specs.Prelude.{◌≡◌, ◌≢◌, ℕ, ◌+◌, ◌<◌, ◌≤◌, List, [], ◌∷◌, ◌++◌, length, take, Option, None, Some, Result, Ok, Err, OnErr}
+use Rattle.std.specs.Prelude.{◌≡◌, ◌≢◌, ℕ, ◌+◌, ◌<◌, ◌≤◌, List, [], ◌∷◌, ◌++◌, length, take, Option, None, Some, Result, Ok, Err}
 use Rattle.std.specs.Option.{option_map}
 use Rattle.outside.specs.declared.failed.Failed.{Failed}
 use Rattle.outside.specs.declared.host.Heard.{Heard}
 use Rattle.outside.specs.declared.host.Heard.TheVariants as heard
-use Rattle.outside.specs.Faults.{CountRose}
+use Rattle.outside.specs.Faults.{CountsFailure, one_more}
 use Rattle.outside.specs.Files.{Two, File, IsImage}
 use Rattle.outside.specs.Links.{ToldLink, Links, got, idle, ended, HeardOn, nothing_heard, hear_reply, hear_failure, changed_at, with_sent, sent_of}
 use Rattle.outside.specs.Outside.{Outside, Moment}
 use Rattle.outside.specs.Disk.{RelatesTold}
 use Rattle.outside.specs.Planned.{AnswersAsPlanned, UsesReading}
 
--- the count of one link does not fall and rose where its call failed, and no other count changes
+-- the count of one link stays where its call succeeded and rises by one where it failed, and no other count changes
 pub record LinkCause {T E : Type 0} (link : ℕ) (old new : ℕ → ℕ) (result : Result T E) : Type 0 where
   pub later : old link ≤ new link
-  pub failed : OnErr result (CountRose (old link) (new link))
+  pub counts : CountsFailure result (old link) (new link)
   pub others : (i : ℕ) → i ≢ link → new i ≡ old i
 
 -- a dial makes the next link, or none
@@ -50,12 +50,12 @@ hear heard.Idle buf = hear_reply (length buf) idle
 hear heard.End buf = hear_reply (length buf) ended
 hear heard.Failed buf = hear_failure
 
--- what is known of the number and the cause of an answer
+-- what is known of the number of an answer, and of its link's count: it stays, or rises by one at a failure
 abbrev pub IsAnswerCaused : Heard → ℕ → ℕ → ℕ → Type 0
-IsAnswerCaused (heard.Got n) room before after = (0 < n) × (n ≤ room)
-IsAnswerCaused heard.Idle room before after = Unit {0}
-IsAnswerCaused heard.End room before after = Unit {0}
-IsAnswerCaused heard.Failed room before after = CountRose before after
+IsAnswerCaused (heard.Got n) room before after = (0 < n) × (n ≤ room) × (after ≡ before)
+IsAnswerCaused heard.Idle room before after = after ≡ before
+IsAnswerCaused heard.End room before after = after ≡ before
+IsAnswerCaused heard.Failed room before after = after ≡ one_more before
 
 pub record HearsAnswer (link : ℕ) (answer : Heard) (buf : List ℕ) (old new : Links) : Type 0 where
   pub same_dialled : new.dialled ≡ old.dialled

@@ -437,7 +437,7 @@ fn put(reply: &Reply, buf: &mut [u8]) -> Heard
     requires room { 0 < length buf.old }
     requires fits { FitsIn (length buf.old) (Some (reply_of reply.now)) }
     ensures heard { reply_in result buf.new ≡ Some (reply_of reply.now) }
-    ensures answer { (before after : ℕ) → IsAnswerCaused result (length buf.new) before after }
+    ensures answer { (count : ℕ) → IsAnswerCaused result (length buf.new) count count }
 {
     match reply {
         Reply::Got(bytes) => {

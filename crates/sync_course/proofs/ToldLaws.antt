@@ -1,12 +1,13 @@
 -- What is told of events one behind the other, and of the events of single calls.
-use Rattle.std.proofs.Common.{◌≡◌, ◌⊎◌, ℕ, ◌≤◌, le_of_eq, Bool, true, false, ◌||◌, nat_eq, eqb-true, List, [], ◌∷◌, ◌++◌, length, take, append-nil, append_assoc, refl, sym, ◌∙◌, ap, subst, inl, inr, arith, Option, None, Some, Ok, Err}
+use Rattle.std.proofs.Common.{◌≡◌, ◌⊎◌, ℕ, ◌≤◌, Bool, true, false, ◌||◌, nat_eq, eqb-true, eq-eqb, List, [], ◌∷◌, ◌++◌, length, take, append-nil, append_assoc, refl, sym, ◌∙◌, ap, subst, inl, inr, arith, Option, None, Some, Ok, Err}
+use Rattle.std.specs.Bool.{if◌then◌else◌}
 use Rattle.std.specs.Option.{option_map}
 use Rattle.std.proofs.Math.Bool.{or_assoc}
 use Rattle.std.proofs.lemmas.Bool.{cases_eq}
 use Rattle.outside.specs.declared.failed.Failed.{Failed}
 use Rattle.outside.specs.declared.host.Heard.{Heard}
 use Rattle.outside.specs.declared.host.Heard.TheVariants as answer
-use Rattle.outside.specs.Faults.{CountRose}
+use Rattle.outside.specs.Faults.{CountRose, one_more}
 use Rattle.outside.specs.Host.{GrowsReadings, HearsAnswer, IsAnswerCaused, ReadsClock, SendsOnLink}
 use Rattle.outside.specs.Disk.{RelatesTold}
 use Rattle.outside.specs.Links.{HeardOn, Planned, Reply, changed_at, got, idle, ended, hear_reply}
@@ -15,7 +16,7 @@ use Rattle.outside.specs.Outside.{Outside}
 use Rattle.outside.proofs.CallSteps.{becomes_map, becomes_none, becomes_then}
 use Rattle.sync_rules.specs.declared.entries.Entry.{Entry}
 use Rattle.sync_course.specs.declared.TheConstants.{PIECE_LEN}
-use Rattle.sync_course.specs.Events.{Event, Commit, Hear, Miss, Read, Break, Pass, asked_event, batches_of, commits, readings_of, heard_by, heard_after, is_failure, has_failure, GrowsBy, PlansAfter, RoseIf, ChangesThrough, TellsEvents, UpcomingAfter}
+use Rattle.sync_course.specs.Events.{Event, Commit, Hear, Miss, Read, Break, Pass, asked_event, batches_of, commits, readings_of, heard_by, heard_after, is_failure, has_failure, failures_after, GrowsBy, PlansAfter, ChangesThrough, TellsEvents, UpcomingAfter}
 
 -- ---- lists of events
 
@@ -40,6 +41,34 @@ has_failure-append link (e ∷ es) fs =
     ap (λ b. is_failure link e || b) (has_failure-append link es fs)
     ∙ sym (or_assoc (is_failure link e) (has_failure link es) (has_failure link fs))
 
+pub failures_after-append : (link : ℕ) (es fs : List Event) (count : ℕ)
+    → failures_after link (es ++ fs) count ≡ failures_after link fs (failures_after link es count)
+failures_after-append link [] fs count = refl
+failures_after-append link (e ∷ es) fs count =
+    failures_after-append link es fs (if is_failure link e then one_more count else count)
+
+-- a count that is past another one stays past it
+past_after : (link : ℕ) (es : List Event) (x count : ℕ) → one_more x ≤ count
+    → one_more x ≤ failures_after link es count
+past_after link [] x count past = past
+past_after link (e ∷ es) x count past =
+    past_after link es x (if is_failure link e then one_more count else count)
+    (elim (is_failure link e) as (λ b. one_more x ≤ (if b then one_more count else count)) [
+      | true ↦ omega (arith, past)
+      | false ↦ past
+    ])
+
+-- where a call of the link failed its count rose
+pub rose_after : (link : ℕ) (es : List Event) (count : ℕ) → has_failure link es ≡ true
+    → CountRose count (failures_after link es count)
+rose_after link [] count failed = cc
+rose_after link (e ∷ es) count failed =
+    elim (is_failure link e) as (λ b. (b || has_failure link es) ≡ true
+    → CountRose count (failures_after link es (if b then one_more count else count))) [
+      | true ↦ λ there. past_after link es count (one_more count) (omega arith)
+      | false ↦ λ there. rose_after link es count there
+    ] failed
+
 -- ---- what is told grows
 
 option_map_same : {A : Type 0} (f : A → A) → ((x : A) → f x ≡ x) → (o : Option A) → o ≡ option_map f o
@@ -61,12 +90,6 @@ grows_then more others a None (Some c) first second = absurd second
 grows_then more others None (Some b) (Some c) first second = absurd first
 grows_then more others (Some a) (Some b) (Some c) first second =
     second ∙ ap (λ l. l ++ others) first ∙ append_assoc a more others
-
-rose_then : (a b : Bool) (x y z : ℕ) → RoseIf a x y → RoseIf b y z → RoseIf (a || b) x z
-rose_then true true x y z first second = omega (arith, first, second)
-rose_then true false x y z first second = omega (arith, first, second)
-rose_then false true x y z first second = omega (arith, first, second)
-rose_then false false x y z first second = omega (arith, first, second)
 
 -- ---- what is left
 
@@ -91,7 +114,7 @@ told_stays o o' same = record {
   readings =
       subst (λ l. GrowsBy [] o.links.readings l.readings) (sym same)
       (grows_none o.links.readings);
-  faults = λ link. le_of_eq (ap (λ l. l.faults link) (sym same));
+  faults = λ link. ap (λ l. l.faults link) same;
   planned =
       told_as (ChangesThrough PlansAfter []) _ _ (λ x. refl) (ap (λ l. l.planned) same);
   upcoming =
@@ -111,10 +134,8 @@ told_then es fs o o1 o2 first second = record {
       (sym (readings_of-append es fs))
       (grows_then (readings_of es) (readings_of fs) _ _ _ first.readings second.readings);
   faults = λ link.
-      subst (λ b. RoseIf b (o.links.faults link) (o2.links.faults link))
-      (sym (has_failure-append link es fs))
-      (rose_then (has_failure link es) (has_failure link fs) _ _ _ (first.faults link)
-      (second.faults link));
+      second.faults link ∙ ap (failures_after link fs) (first.faults link)
+      ∙ sym (failures_after-append link es fs (o.links.faults link));
   planned =
       becomes_then _ _ _ _ _ _ (through_then PlansAfter es fs) first.planned second.planned;
   upcoming =
@@ -131,8 +152,8 @@ batches_of_commits (b ∷ bs) = ap (λ l. b ∷ l) (batches_of_commits bs)
 told_one : (e : Event) (o o' : Outside)
     → o'.links.heard ≡ option_map (heard_by e) o.links.heard
     → GrowsBy (readings_of (e ∷ [])) o.links.readings o'.links.readings
-    → ((link : ℕ) → RoseIf (has_failure link (e ∷ [])) (o.links.faults link)
-    (o'.links.faults link)) → RelatesTold (PlansAfter e) o.links.planned o'.links.planned
+    → ((link : ℕ) → o'.links.faults link ≡ failures_after link (e ∷ []) (o.links.faults link))
+    → RelatesTold (PlansAfter e) o.links.planned o'.links.planned
     → RelatesTold (UpcomingAfter e) o.links.upcoming o'.links.upcoming
     → TellsEvents (e ∷ []) o o'
 told_one e o o' heard readings faults planned upcoming = record {
@@ -153,8 +174,8 @@ SaysNothing _ = Unit {0}
 told_same : (e : Event) (o o' : Outside) → SaysNothing e
     → o'.links.heard ≡ o.links.heard → o'.links.readings ≡ o.links.readings
     → o'.links.planned ≡ o.links.planned → o'.links.upcoming ≡ o.links.upcoming
-    → ((link : ℕ) → RoseIf (has_failure link (e ∷ [])) (o.links.faults link)
-    (o'.links.faults link)) → TellsEvents (e ∷ []) o o'
+    → ((link : ℕ) → o'.links.faults link ≡ failures_after link (e ∷ []) (o.links.faults link))
+    → TellsEvents (e ∷ []) o o'
 told_same (Hear link reply) o o' says heard readings planned upcoming faults = absurd says
 told_same (Miss link) o o' says heard readings planned upcoming faults = absurd says
 told_same (Read link now) o o' says heard readings planned upcoming faults = absurd says
@@ -167,7 +188,7 @@ told_same e o o' says heard readings planned upcoming faults =
 -- nothing that is told of
 pub told_pass : (o o' : Outside) → o'.links ≡ o.links → TellsEvents (Pass ∷ []) o o'
 told_pass o o' same =
-    told_then (Pass ∷ []) [] o o o' (told_same Pass o o tt refl refl refl refl (λ link. omega arith))
+    told_then (Pass ∷ []) [] o o o' (told_same Pass o o tt refl refl refl refl (λ link. refl))
     (told_stays o o' same)
 
 -- batches that were committed while the links stayed as they were
@@ -175,37 +196,44 @@ pub told_commits : (bs : List (List Entry)) (o o' : Outside) → o'.links ≡ o.
 told_commits [] o o' same = told_stays o o' same
 told_commits (b ∷ bs) o o' same =
     told_then (Commit b ∷ []) (commits bs) o o o'
-    (told_same (Commit b) o o tt refl refl refl refl (λ link. omega arith))
+    (told_same (Commit b) o o tt refl refl refl refl (λ link. refl))
     (told_commits bs o o' same)
 
--- a count of a link that rose where the call of another one failed
-other_faults : (n link : ℕ) (old new : ℕ → ℕ) → old n ≤ new n → ((i : ℕ) → (i ≡ n → ⊥) → new i ≡ old i) → old link ≤ new link
-other_faults n link old new later others =
+-- no count changed, where that of the link that was called stayed
+same_counts : (n link : ℕ) (old new : ℕ → ℕ) → new n ≡ old n
+    → ((i : ℕ) → (i ≡ n → ⊥) → new i ≡ old i) → new link ≡ old link
+same_counts n link old new same others =
     elim (cases_eq link n) [
-      | inl same ↦ subst (λ i. old i ≤ new i) (sym same) later
-      | inr other ↦ le_of_eq (sym (others link other))
+      | inl here ↦ subst (λ i. new i ≡ old i) (sym here) same
+      | inr other ↦ others link other
     ]
 
-failed_faults : (n link : ℕ) (old new : ℕ → ℕ) → CountRose (old n) (new n) → old n ≤ new n → ((i : ℕ) → (i ≡ n → ⊥) → new i ≡ old i)
-    → RoseIf (nat_eq n link || false) (old link) (new link)
-failed_faults n link old new rose later others =
-    elim (nat_eq n link) as (λ b. nat_eq n link ≡ b → RoseIf (b || false) (old link) (new link)) [
-      | true ↦ λ is. subst (λ i. CountRose (old i) (new i)) (eqb-true n link is) rose
-      | false ↦ λ is. other_faults n link old new later others
+-- the count of the link whose call failed rose by one, and no other
+one_failed : (n link : ℕ) (old new : ℕ → ℕ) → new n ≡ one_more (old n)
+    → ((i : ℕ) → (i ≡ n → ⊥) → new i ≡ old i)
+    → new link ≡ (if nat_eq n link then one_more (old link) else old link)
+one_failed n link old new rose others =
+    elim (nat_eq n link) as (λ b. nat_eq n link ≡ b
+    → new link ≡ (if b then one_more (old link) else old link)) [
+      | true ↦ λ is. subst (λ i. new i ≡ one_more (old i)) (eqb-true n link is) rose
+      | false ↦ λ is. others link (λ same.
+          let equal : nat_eq n link ≡ true = eq-eqb n link (sym same) in
+          cc)
     ] refl
 
 -- a link was asked
 told_reply : (link : ℕ) (given : Heard) (reply : Reply) (buf : List ℕ) (o o' : Outside)
     → length buf ≡ PIECE_LEN → HearsAnswer link given buf o.links o'.links
+    → o'.links.faults link ≡ o.links.faults link
     → o'.links.heard ≡ option_map (changed_at link (hear_reply (length buf) reply)) o.links.heard
     → ((x y : ℕ → List Planned) → AnswersAsPlanned link given buf x y
     → UsesPlan link (length buf) (Some reply) x y) → TellsEvents (Hear link reply ∷ []) o o'
-told_reply link given reply buf o o' whole hears heard uses =
+told_reply link given reply buf o o' whole hears same heard uses =
     told_one (Hear link reply) o o'
     (heard
     ∙ ap (λ room. option_map (changed_at link (hear_reply room reply)) o.links.heard) whole)
     (subst (GrowsBy [] o.links.readings) (sym hears.same_readings) (grows_none o.links.readings))
-    (λ i. other_faults link i o.links.faults o'.links.faults hears.later hears.others)
+    (λ i. same_counts link i o.links.faults o'.links.faults same hears.others)
     (becomes_map (AnswersAsPlanned link given buf) _ _ _
     (λ x y used. subst (λ room. UsesPlan link room (Some reply) x y) whole (uses x y used))
     hears.planned)
@@ -215,16 +243,16 @@ pub told_asked : (link : ℕ) (given : Heard) (buf : List ℕ) (o o' : Outside) 
     → HearsAnswer link given buf o.links o'.links → IsAnswerCaused given (length buf) (o.links.faults link) (o'.links.faults link)
     → TellsEvents (asked_event link given buf ∷ []) o o'
 told_asked link (answer.Got n) buf o o' whole hears caused =
-    told_reply link (answer.Got n) (got (take n buf)) buf o o' whole hears hears.heard (λ x y used.
-    used)
+    told_reply link (answer.Got n) (got (take n buf)) buf o o' whole hears caused.2 hears.heard
+    (λ x y used. used)
 told_asked link answer.Idle buf o o' whole hears caused =
-    told_reply link answer.Idle idle buf o o' whole hears hears.heard (λ x y used. used)
+    told_reply link answer.Idle idle buf o o' whole hears caused hears.heard (λ x y used. used)
 told_asked link answer.End buf o o' whole hears caused =
-    told_reply link answer.End ended buf o o' whole hears hears.heard (λ x y used. used)
+    told_reply link answer.End ended buf o o' whole hears caused hears.heard (λ x y used. used)
 told_asked link answer.Failed buf o o' whole hears caused =
     told_one (Miss link) o o' hears.heard
     (subst (GrowsBy [] o.links.readings) (sym hears.same_readings) (grows_none o.links.readings))
-    (λ i. failed_faults link i o.links.faults o'.links.faults caused hears.later hears.others)
+    (λ i. one_failed link i o.links.faults o'.links.faults caused hears.others)
     (becomes_map (AnswersAsPlanned link answer.Failed buf) _ _ _
     (λ x y uses. subst (λ room. UsesPlan link room None x y ⊎ (y ≡ x)) whole uses) hears.planned)
     (told_as (UpcomingAfter (Miss link)) _ _ (λ x. refl) hears.same_upcoming)
@@ -240,7 +268,7 @@ told_read link now o o' reads =
     told_one (Read link now) o o'
     (reads.same_heard ∙ option_map_same (heard_after []) (λ heard. refl) o.links.heard)
     (grows_one now o.links.readings o'.links.readings reads.readings)
-    (λ i. le_of_eq (ap (λ f. f i) (sym reads.same_faults)))
+    (λ i. ap (λ f. f i) reads.same_faults)
     (told_as (PlansAfter (Read link now)) _ _ (λ x. refl) reads.same_planned) reads.upcoming
 
 -- all bytes were sent
@@ -248,7 +276,7 @@ pub told_sent : (link : ℕ) (bytes : List ℕ) (o o' : Outside) → SendsOnLink
 told_sent link bytes o o' sends =
     told_same Pass o o' tt sends.same_heard sends.same_readings sends.same_planned
     sends.same_upcoming (λ i.
-    other_faults link i o.links.faults o'.links.faults sends.faults.later sends.faults.others)
+    same_counts link i o.links.faults o'.links.faults sends.faults.counts sends.faults.others)
 
 -- a send failed
 pub told_broken : (link : ℕ) (bytes : List ℕ) (why : Failed) (o o' : Outside) → SendsOnLink link bytes (Err why) o.links o'.links
@@ -256,5 +284,4 @@ pub told_broken : (link : ℕ) (bytes : List ℕ) (why : Failed) (o o' : Outside
 told_broken link bytes why o o' sends =
     told_same (Break link) o o' tt sends.same_heard sends.same_readings sends.same_planned
     sends.same_upcoming (λ i.
-    failed_faults link i o.links.faults o'.links.faults sends.faults.failed sends.faults.later
-    sends.faults.others)
+    one_failed link i o.links.faults o'.links.faults sends.faults.counts sends.faults.others)

@@ -1,10 +1,10 @@
 -- The events of a run, and what is told of them where the outside tells it.
-use Rattle.std.specs.Prelude.{◌≡◌, ◌⊎◌, ℕ, ◌≤◌, Bool, true, false, ◌||◌, nat_eq, List, [], ◌∷◌, ◌++◌, take, Option, None, Some}
+use Rattle.std.specs.Prelude.{◌≡◌, ◌⊎◌, ℕ, Bool, true, false, ◌||◌, if◌then◌else◌, nat_eq, List, [], ◌∷◌, ◌++◌, take, Option, None, Some}
 use Rattle.std.specs.Option.{option_map}
 use Rattle.outside.specs.declared.host.Heard.{Heard}
 use Rattle.outside.specs.declared.host.Heard.TheVariants as answer
 use Rattle.outside.specs.Disk.{RelatesTold}
-use Rattle.outside.specs.Faults.{CountRose}
+use Rattle.outside.specs.Faults.{one_more}
 use Rattle.outside.specs.Links.{Reply, got, idle, ended, HeardOn, Planned, hear_reply, hear_failure, changed_at}
 use Rattle.outside.specs.Outside.{Outside}
 use Rattle.outside.specs.Planned.{UsesPlan, UsesReading}
@@ -67,6 +67,11 @@ abbrev pub has_failure : ℕ → List Event → Bool
 has_failure link [] = false
 has_failure link (e ∷ es) = is_failure link e || has_failure link es
 
+-- a count of this link's failures behind these events: one more for each of its calls that failed
+abbrev pub failures_after : ℕ → List Event → ℕ → ℕ
+failures_after link [] count = count
+failures_after link (e ∷ es) count = failures_after link es (if is_failure link e then one_more count else count)
+
 -- ---- what is told
 
 -- readings that are told afterwards were told before, and these came behind them
@@ -74,11 +79,6 @@ abbrev pub GrowsBy : List ℕ → Option (List ℕ) → Option (List ℕ) → Ty
 GrowsBy more old None = Unit {0}
 GrowsBy more None (Some new) = ⊥
 GrowsBy more (Some old) (Some new) = new ≡ old ++ more
-
--- a count of failures did not fall, and it rose where a call failed
-abbrev pub RoseIf : Bool → ℕ → ℕ → Type 0
-RoseIf true before after = CountRose before after
-RoseIf false before after = before ≤ after
 
 -- ---- what is left of what was planned
 
@@ -99,11 +99,11 @@ UpcomingAfter (Read link now) old new = UsesReading now old new
 UpcomingAfter _ old new = new ≡ old
 
 -- What an object tells after these events: what was heard and the readings grew by what the events say, wherever they are told,
--- and the count of a link's failures rose where an event says that a call of it failed; and where it tells what its links and its
+-- and the count of a link's failures rose by one for each event that says that a call of it failed; and where it tells what its links and its
 -- clock are yet going to answer, the events used that up in order, and the rest is left.
 pub record TellsEvents (events : List Event) (old new : Outside) : Type 0 where
   pub heard : new.links.heard ≡ option_map (heard_after events) old.links.heard
   pub readings : GrowsBy (readings_of events) old.links.readings new.links.readings
-  pub faults : (link : ℕ) → RoseIf (has_failure link events) (old.links.faults link) (new.links.faults link)
+  pub faults : (link : ℕ) → new.links.faults link ≡ failures_after link events (old.links.faults link)
   pub planned : RelatesTold (ChangesThrough PlansAfter events) old.links.planned new.links.planned
   pub upcoming : RelatesTold (ChangesThrough UpcomingAfter events) old.links.upcoming new.links.upcoming

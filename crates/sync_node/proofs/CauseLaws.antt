@@ -248,7 +248,7 @@ link_sent {number = n} {bytes = bytes} {l = l} {l' = l'} {o = o} {o' = o'} sends
     by_result (Ok u) went ends =
         link_kept goes (ap (λ (x : Link). x.session) ends) (ap (λ (x : Link). x.end) ends)
     by_result (Err e) went ends =
-        link_failed goes (ap (λ (x : Link). x.session) ends) went.faults.failed
+        link_failed goes (ap (λ (x : Link). x.session) ends) (omega (arith, went.faults.counts))
 
 -- ---- how links end that did not fail
 

@@ -1,7 +1,9 @@
 -- What calls did as acts, as events that are told: a path of acts is one of events, but for parts of
 -- what was owed, which are told of nothing.
 use Rattle.std.proofs.Common.{◌≡◌, ℕ, ◌*◌, ◌||◌, List, [], ◌∷◌, ◌++◌, length, refl, sym, ◌∙◌, ap, subst, inl, inr, Bool, Option, None, Some}
+use Rattle.std.specs.Bool.{if◌then◌else◌}
 use Rattle.std.specs.Option.{option_map}
+use Rattle.outside.specs.Faults.{one_more as one_more_fault}
 use Rattle.outside.specs.Disk.{RelatesTold}
 use Rattle.outside.specs.Links.{HeardOn, Planned}
 use Rattle.outside.specs.Outside.{MakesAtMost, Outside}
@@ -9,7 +11,7 @@ use Rattle.sync_rules.specs.Clients.{Meaning}
 use Rattle.sync_rules.specs.Facts.{Facts, Journal}
 use Rattle.sync_store.specs.Store.{StoreValue}
 use Rattle.sync_course.specs.Acts.{Act, Does, Fail, Send, commit_acts, events_of}
-use Rattle.sync_course.specs.Events.{Break, Event, GrowsBy, Pass, PlansAfter, RoseIf, ChangesThrough, TellsEvents, UpcomingAfter, batches_of, commits, has_failure, heard_after, heard_by, is_failure, readings_of}
+use Rattle.sync_course.specs.Events.{Break, Event, GrowsBy, Pass, PlansAfter, ChangesThrough, TellsEvents, UpcomingAfter, batches_of, commits, failures_after, has_failure, heard_after, heard_by, is_failure, readings_of}
 use Rattle.sync_course.specs.Owing.{ActStep, Owing}
 use Rattle.sync_course.specs.Paths.{BreaksPath, Path, RunsPath}
 use Rattle.sync_course.proofs.ToldLaws.{batches_of-append, readings_of-append}
@@ -25,6 +27,7 @@ pub record Thins (es fs : List Event) : Type 0 where
   pub heard : (h : List HeardOn) → heard_after fs h ≡ heard_after es h
   pub readings : readings_of es ≡ readings_of fs
   pub failures : (link : ℕ) → has_failure link es ≡ has_failure link fs
+  pub counts : (link count : ℕ) → failures_after link es count ≡ failures_after link fs count
   pub planned : (a b : ℕ → List Planned) → ChangesThrough PlansAfter fs a b → ChangesThrough PlansAfter es a b
   pub upcoming : (a b : List ℕ) → ChangesThrough UpcomingAfter fs a b → ChangesThrough UpcomingAfter es a b
 
@@ -34,6 +37,7 @@ thins_none = record {
   heard = λ h. refl;
   readings = refl;
   failures = λ link. refl;
+  counts = λ link count. refl;
   planned = λ a b through. through;
   upcoming = λ a b through. through;
 }
@@ -49,6 +53,7 @@ thins_same e es fs t = record {
       readings_of-append (e ∷ []) es ∙ ap (λ (l : List ℕ). readings_of (e ∷ []) ++ l) t.readings
       ∙ sym (readings_of-append (e ∷ []) fs);
   failures = λ link. ap (λ (b : Bool). is_failure link e || b) (t.failures link);
+  counts = λ link count. t.counts link (if is_failure link e then one_more_fault count else count);
   planned = λ a b through. (through.0, through.1, t.planned through.0 b through.2);
   upcoming = λ a b through. (through.0, through.1, t.upcoming through.0 b through.2);
 }
@@ -60,6 +65,7 @@ thins_pass es fs t = record {
   heard = t.heard;
   readings = t.readings;
   failures = t.failures;
+  counts = t.counts;
   planned = λ a b through.
       t.planned a b
       (subst (λ (x : ℕ → List Planned). ChangesThrough PlansAfter fs x b) through.1 through.2);
@@ -88,8 +94,7 @@ thins_told es fs o o' t told = record {
       subst (λ (l : List ℕ). GrowsBy l o.links.readings o'.links.readings) (sym t.readings)
       told.readings;
   faults = λ link.
-      subst (λ (b : Bool). RoseIf b (o.links.faults link) (o'.links.faults link))
-      (sym (t.failures link)) (told.faults link);
+      told.faults link ∙ sym (t.counts link (o.links.faults link));
   planned =
       becomes_as (ChangesThrough PlansAfter fs) (ChangesThrough PlansAfter es) t.planned o.links.planned
       o'.links.planned told.planned;

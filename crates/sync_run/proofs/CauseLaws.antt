@@ -17,6 +17,7 @@ use Rattle.sync_words.specs.declared.link_words.LinkWords.{LinkWords}
 use Rattle.sync_words.specs.declared.outcome.Outcome.{Outcome}
 use Rattle.sync_words.specs.declared.outcome.Outcome.TheVariants as outcome
 use Rattle.sync_run.specs.Causes.{FailuresRose, IsCaused, RunCaused}
+use Rattle.sync_run.specs.Dialling.{FailedOnce, NoneFailed}
 use Rattle.sync_run.specs.Parts.{closed_by}
 
 pub rose_before : (a b c : ℕ) → a ≤ b → CountRose b c → CountRose a c
@@ -36,6 +37,13 @@ causes_then links mid links' o o1 o' first second before behind number stands =
           inr (rose_before (o.links.faults number) (o1.links.faults number) (o'.links.faults number)
           (first.links.faults number) rose)
     ]
+
+pub once_behind : (link : ℕ) (a b c : ℕ → ℕ) → NoneFailed a b → FailedOnce link b c
+    → FailedOnce link a c
+once_behind link a b c none failed = record {
+  once = failed.once ∙ ap one_more (none link);
+  others = λ i other. failed.others i other ∙ none i;
+}
 
 -- ---- ends
 
@@ -73,6 +81,7 @@ ends_rose over links links' ends o o' none are causes i stands at failed =
 module _ (words words' : List LinkWords) (o o1 o2 o3 : Outside)
     (more : length words ≤ length words')
     (links : (i : ℕ) → o.links.faults i ≤ o1.links.faults i) (disk : o.disk_faults ≤ o1.disk_faults)
+    (dialled : (words ≡ []) ⊎ NoneFailed o.links.faults o1.links.faults)
     (same_links : o3.links ≡ o2.links) (same_faults : o3.disk_faults ≡ o2.disk_faults) where
   rose_on : (i : ℕ) → CountRose (o1.links.faults i) (o2.links.faults i)
       → CountRose (o.links.faults i) (o3.links.faults i)
@@ -85,7 +94,14 @@ module _ (words words' : List LinkWords) (o o1 o2 o3 : Outside)
   caused_amid (Err outcome.DiskFault) caused =
       rose_before _ _ _ disk (subst (CountRose o1.disk_faults) (sym same_faults) caused)
   caused_amid (Err (outcome.LinkFailed link)) caused =
-      (omega (arith, caused.0, more), rose_on link caused.1)
+      elim dialled [
+        | inl none ↦ absurd (omega (arith, caused.0, ap (λ (ws : List LinkWords). length ws) none))
+        | inr unfailed ↦ (
+          omega (arith, caused.0, more),
+          subst (λ (l : Links). FailedOnce link o.links.faults l.faults) (sym same_links)
+              (once_behind link o.links.faults o1.links.faults o2.links.faults unfailed caused.1),
+        )
+      ]
   caused_amid (Err outcome.NoStore) caused = tt
   caused_amid (Err (outcome.Damaged place)) caused = tt
   caused_amid (Err (outcome.Refused refused.UnknownContact)) caused = tt
@@ -100,8 +116,8 @@ pub caused_behind : (words : List LinkWords) (o o1 o2 o3 : Outside) → DiskRun 
     → IsCaused words o1 o2 r → IsCaused words o o3 r
 caused_behind words o o1 o2 o3 run same_links same_faults =
     caused_amid words words o o1 o2 o3 (omega arith)
-    (λ i. omega (arith, ap (λ (l : Links). l.faults i) run.same_links)) run.later same_links
-    same_faults
+    (λ i. omega (arith, ap (λ (l : Links). l.faults i) run.same_links)) run.later
+    (inr (λ i. ap (λ (l : Links). l.faults i) run.same_links)) same_links same_faults
 
 -- settling itself was broken off
 pub unsettled_caused : (o o' : Outside) (e : Outcome) → ExtendsBy o o' (Err e)

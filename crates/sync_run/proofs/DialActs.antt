@@ -1,5 +1,7 @@
 -- What a command comes to whose links were dialled, by what the run on them came to.
-use Rattle.std.proofs.Common.{◌≡◌, ℕ, suc, ◌≤◌, Bool, true, false, cond, List, [], ◌∷◌, ◌++◌}
+use Rattle.std.proofs.Common.{◌≡◌, ℕ, suc, Bool, true, false, cond, nat_eq, eqb-true, eq-eqb}
+use Rattle.std.proofs.Common.{List, [], ◌∷◌, ◌++◌}
+use Rattle.std.specs.Bool.{if◌then◌else◌}
 use Rattle.std.proofs.Common.{length, append-nil, refl, sym, ◌∙◌, ap, subst, arith, inl, inr}
 use Rattle.std.proofs.Common.{Option, None, Some, is_some, Result, Ok, Err}
 use Rattle.std.specs.Option.{option_map}
@@ -16,9 +18,9 @@ use Rattle.sync_rules.specs.Clients.{Meaning}
 use Rattle.sync_rules.specs.Facts.{Journal, facts}
 use Rattle.sync_store.specs.Store.{StoreValue}
 use Rattle.sync_course.specs.Acts.{AtFront, batches_in, events_of}
-use Rattle.sync_course.specs.Events.{Event, GrowsBy, RoseIf, TellsEvents, has_failure, heard_after}
+use Rattle.sync_course.specs.Events.{Event, GrowsBy, TellsEvents, failures_after, heard_after}
 use Rattle.sync_course.specs.Events.{readings_of}
-use Rattle.sync_course.specs.Owing.{paid}
+use Rattle.sync_course.specs.Owing.{Owing, paid}
 use Rattle.sync_course.specs.Turns.{Place, Terms, first_place}
 use Rattle.sync_course.proofs.ToldLaws.{told_none}
 use Rattle.sync_node.proofs.CourseLaws.{fits_on}
@@ -35,9 +37,10 @@ use Rattle.sync_words.specs.Links.{has_nonce}
 use Rattle.sync_run.specs.declared.dialling.Dialled.{Dialled}
 use Rattle.sync_run.specs.declared.run.Limits.{Limits}
 use Rattle.sync_run.specs.Courses.{HearsRun, RanShort, RanSoFar, ReadsShort, RunWasSpent}
-use Rattle.sync_run.specs.Courses.{terms_of}
-use Rattle.sync_run.specs.Dialling.{DialsOnly, DialsAll, MakesLinks, unheard}
-use Rattle.sync_run.specs.Parts.{RanDialled, RanOnLinks, RunDid}
+use Rattle.sync_run.specs.Courses.{dialled_faults, terms_of}
+use Rattle.sync_run.specs.Dialling.{DialsOnly, DialsAll, FailedOnce, MakesLinks, NoneFailed}
+use Rattle.sync_run.specs.Dialling.{unheard}
+use Rattle.sync_run.specs.Parts.{AnswersAt, RanDialled, RanOnLinks, RunDid, undialled_link}
 use Rattle.sync_run.specs.Plans.{ArePlanned, sessions_from}
 use Rattle.sync_run.proofs.DialLaws.{calms_run, makes_then}
 use Rattle.sync_run.proofs.RestLaws.{image_read}
@@ -82,10 +85,6 @@ some_planned first (w ∷ words) =
 
 -- ---- what is told
 
-rose_if_before : (b : Bool) (x y z : ℕ) → x ≤ y → RoseIf b y z → RoseIf b x z
-rose_if_before true x y z before rose = let r : one_more y ≤ z = rose in omega (arith, before, r)
-rose_if_before false x y z before rose = let r : y ≤ z = rose in omega (arith, before, r)
-
 -- on links that were made, of which there were none before
 heard_by_run : (es : List Event) (n : ℕ) (o0 o1 o : Option (List HeardOn))
     → ((h : List HeardOn) → o0 ≡ Some h → length h ≡ 0)
@@ -98,10 +97,12 @@ heard_by_run es n (Some h) o1 o none made told =
     ∙ ap (λ (hs : List HeardOn). Some (heard_after es (hs ++ unheard n)))
     (nil_from_length h (none h refl))
 
-hears_dialled : (words : List LinkWords) (es : List Event) (o0 o1 o : Outside)
-    → o0.links.dialled ≡ 0 → MakesLinks words o0.links o1.links → TellsEvents es o1 o
-    → o.links.dialled ≡ o1.links.dialled → HearsRun es o0.links o.links
-hears_dialled words es o0 o1 o none makes told same =
+hears_dialled : (undialled : Option ℕ) (words : List LinkWords) (es : List Event)
+    (o0 o1 o : Outside) → o0.links.dialled ≡ 0 → MakesLinks words o0.links o1.links
+    → ((link : ℕ) → o1.links.faults link ≡ dialled_faults undialled link (o0.links.faults link))
+    → TellsEvents es o1 o
+    → o.links.dialled ≡ o1.links.dialled → HearsRun undialled es o0.links o.links
+hears_dialled undialled words es o0 o1 o none makes dials told same =
     let number : o.links.dialled ≡ length words = omega (arith, same, makes.dialled, none) in
     record {
       heard =
@@ -111,10 +112,29 @@ hears_dialled words es o0 o1 o none makes told same =
           o0.links.heard) (sym number);
       readings = subst (λ (r : Option (List ℕ)). GrowsBy (readings_of es) r o.links.readings)
           makes.same_readings told.readings;
-      faults = λ link.
-          rose_if_before (has_failure link es) (o0.links.faults link) (o1.links.faults link)
-          (o.links.faults link) (makes.grows.faults link) (told.faults link);
+      faults = λ link. told.faults link ∙ ap (failures_after link es) (dials link);
     }
+
+-- the dial of one link was the one call that failed
+once_counted : (link : ℕ) (old new : ℕ → ℕ) → FailedOnce link old new
+    → (i : ℕ) → new i ≡ dialled_faults (Some link) i (old i)
+once_counted link old new failed i =
+    elim (nat_eq link i) as (λ b. nat_eq link i ≡ b
+    → new i ≡ (if b then one_more (old i) else old i)) [
+      | true ↦ λ is. subst (λ (k : ℕ). new k ≡ one_more (old k)) (eqb-true link i is) failed.once
+      | false ↦ λ is. failed.others i (λ same.
+          let equal : nat_eq link i ≡ true = eq-eqb link i (sym same) in
+          cc)
+    ] refl
+
+-- sessions ran, so the command did not end by a dial
+was_dialled : (clients : Meaning) (limits : Limits) (terms : Terms) (to : Owing Place) (j : Journal)
+    (Short Whole Spent : Type 0) (r : Result Closing Outcome)
+    → AnswersAt clients limits terms to j Short Whole Spent ⊥ r → undialled_link r ≡ None
+was_dialled clients limits terms to j Short Whole Spent (Ok ends) answer = refl
+was_dialled clients limits terms to j Short Whole Spent (Err (outcome.LinkFailed link)) answer =
+    absurd answer
+was_dialled clients limits terms to j Short Whole Spent (Err _) answer = refl
 
 -- ---- dials before other acts
 
@@ -198,8 +218,12 @@ module _ (clients : Meaning) (limits : Limits) (words : List LinkWords) (links :
             (told_after o0 o1 (calms_run o0 o1 calms)) over.did;
         made = inl (omega (arith, goes.same_dialled, makes.dialled, none));
         grows = grow_then o0.links o1.links o.links calms.grows goes.links;
-        hears = hears_dialled words (events_of over.did.acts) o0 o1 o none makes over.told
-            goes.same_dialled;
+        hears =
+            subst (λ (d : Option ℕ). HearsRun d (events_of over.did.acts) o0.links o.links)
+            (sym (was_dialled clients limits terms over.did.to (j ++ batches_in over.did.acts)
+            (ReadsShort o.files) (MayMigrate o1.files) (RunWasSpent [] o1 o) r over.answer))
+            (hears_dialled None words (events_of over.did.acts) o0 o1 o none makes dials.all.2
+            over.told goes.same_dialled);
         answer =
             answers_map clients limits terms over.did.to (ReadsShort o.files) (MayMigrate o1.files)
             (RunWasSpent [] o1 o) ⊥ (MayMigrate o0.files) (RunWasSpent words o0 o)
@@ -210,10 +234,10 @@ module _ (clients : Meaning) (limits : Limits) (words : List LinkWords) (links :
       }
 
   -- a dial failed
-  pub undialled_ran : (e : Failed) (link : ℕ) → DialsAll words links (Err e) o0 o1 → (j : Journal)
-      → FitsWith clients s o0.files j
+  pub undialled_ran : (e : Failed) (link : ℕ) → link ≡ length links
+      → DialsAll words links (Err e) o0 o1 → (j : Journal) → FitsWith clients s o0.files j
       → RanOnLinks clients limits words j o0 o1 (Err (outcome.LinkFailed link))
-  undialled_ran e link dials j fit =
+  undialled_ran e link at dials j fit =
       let some = some_planned (facts j).begun words in
       record {
         sessions = some.0;
@@ -224,15 +248,20 @@ module _ (clients : Meaning) (limits : Limits) (words : List LinkWords) (links :
             (first_place some.0 (facts j));
         made = inr refl;
         grows = calms.grows;
-        hears = hears_dialled dials.made [] o0 o1 o1 none dials.makes (told_none o1) refl;
+        hears =
+            hears_dialled (Some link) dials.made [] o0 o1 o1 none dials.makes
+            (once_counted link o0.links.faults o1.links.faults
+            (subst (λ (n : ℕ). FailedOnce n o0.links.faults o1.links.faults) (sym at)
+            dials.all.1)) (told_none o1) refl;
         answer = calms.same_files;
       }
 
 -- the run did not begin
 abbrev none_ran : (clients : Meaning) (limits : Limits) (words made : List LinkWords) (j : Journal)
     (o0 o : Outside) → o0.links.dialled ≡ 0 → MakesLinks made o0.links o.links
+    → NoneFailed o0.links.faults o.links.faults
     → ReadsAs clients o.files j → RanSoFar clients limits words j o0 o
-none_ran clients limits words made j o0 o none makes reads =
+none_ran clients limits words made j o0 o none makes unfailed reads =
     let some = some_planned (facts j).begun words in
     record {
       sessions = some.0;
@@ -242,20 +271,21 @@ none_ran clients limits words made j o0 o none makes reads =
       last = first_place some.0 (facts j);
       course = refl;
       all_made = λ begun. absurd (omega (arith, begun));
-      hears = hears_dialled made [] o0 o o none makes (told_none o) refl;
+      hears = hears_dialled None made [] o0 o o none makes unfailed (told_none o) refl;
       reads = subst (λ (k : Journal). ReadsAs clients o.files k) (sym (append-nil j)) reads;
     }
 
 pub unbegun : (clients : Meaning) (limits : Limits) (words made : List LinkWords) (j : Journal)
     (o0 o : Outside) → o0.links.dialled ≡ 0 → MakesLinks made o0.links o.links
-    → ReadsAs clients o.files j → RanSoFar clients limits words j o0 o
+    → NoneFailed o0.links.faults o.links.faults → ReadsAs clients o.files j → RanSoFar clients limits words j o0 o
 unbegun = none_ran
 
 -- the same for want of memory
 pub unbegun_starved : (clients : Meaning) (limits : Limits) (words made : List LinkWords)
     (j : Journal) (o0 o : Outside) → o0.links.dialled ≡ 0 → MakesLinks made o0.links o.links
+    → NoneFailed o0.links.faults o.links.faults
     → ReadsAs clients o.files j → RanShort clients limits words j o0 o
-unbegun_starved clients limits words made j o0 o none makes reads = record {
-  run = none_ran clients limits words made j o0 o none makes reads;
+unbegun_starved clients limits words made j o0 o none makes unfailed reads = record {
+  run = none_ran clients limits words made j o0 o none makes unfailed reads;
   short = λ begun. absurd (omega (arith, begun));
 }

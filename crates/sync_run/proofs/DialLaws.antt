@@ -6,22 +6,22 @@ use Rattle.std.specs.Bool.{if◌then◌else◌}
 use Rattle.std.specs.Result.{is_ok}
 use Rattle.std.specs.List.{slice_get}
 use Rattle.std.specs.Option.{option_map}
+use Rattle.std.proofs.lemmas.Bool.{cases_eq}
 use Rattle.std.proofs.lemmas.List.{length-append, length-take, map-append, take-append-drop}
 use Rattle.outside.specs.declared.failed.Failed.{Failed}
-use Rattle.outside.specs.Faults.{CountRose}
-use Rattle.outside.specs.Host.{AsksNonce, DialsLink}
+use Rattle.outside.specs.Host.{AsksNonce, DialsLink, LinkCause}
 use Rattle.outside.specs.Links.{HeardOn, ToldLink, Links, nothing_heard}
 use Rattle.outside.specs.Outside.{IsNow, Outside, QuietCall}
 use Rattle.outside.proofs.CallCounts.{no_call_none, no_call_then, no_call_goes_on}
 use Rattle.outside.specs.Runs.{HostRun, IsFront, LinksGrow}
 use Rattle.outside.proofs.RunLaws.{grow_dial, grow_nonce, grow_same, grow_then, others_dial, others_nonce}
-use Rattle.sync_run.proofs.CauseLaws.{rose_before}
+use Rattle.sync_run.proofs.CauseLaws.{once_behind}
 use Rattle.sync_node.specs.Output.{sent_on}
 use Rattle.sync_node.specs.Plans.{session_of}
 use Rattle.sync_words.specs.declared.link_words.LinkWords.{LinkWords}
 use Rattle.sync_run.specs.declared.dialling.Dialled.{Dialled}
-use Rattle.sync_run.specs.Dialling.{AreDialled, DialsOnly, DialsAll, MakesAll, MakesLinks, MakesOne}
-use Rattle.sync_run.specs.Dialling.{PassesTime, fresh_links, unheard}
+use Rattle.sync_run.specs.Dialling.{AreDialled, DialsOnly, DialsAll, FailedOnce, MakesAll, MakesLinks, MakesOne}
+use Rattle.sync_run.specs.Dialling.{NoneFailed, PassesTime, fresh_links, unheard}
 use Rattle.sync_run.specs.Plans.{ArePlanned, IsPlanned, sessions_from}
 
 -- ---- calls that send nothing
@@ -242,31 +242,61 @@ dialled_push first (v ∷ words) (x ∷ links) w d are there is =
 
 -- ---- a call that failed
 
+-- no count changed where the call of one link succeeded
+none_by : {T : Type 0} (link : ℕ) (t : T) (old new : ℕ → ℕ)
+    → LinkCause {E = Failed} link old new (Ok t) → NoneFailed old new
+none_by link t old new cause i = elim (cases_eq i link) [
+  | inl here ↦ subst (λ (k : ℕ). new k ≡ old k) (sym here) cause.counts
+  | inr other ↦ cause.others i other
+]
+
+once_by : {T : Type 0} (link : ℕ) (e : Failed) (old new : ℕ → ℕ)
+    → LinkCause {T = T} link old new (Err e) → FailedOnce link old new
+once_by link e old new cause = record { once = cause.counts; others = cause.others }
+
+pub none_then : (a b c : ℕ → ℕ) → NoneFailed a b → NoneFailed b c → NoneFailed a c
+none_then a b c first second i = second i ∙ first i
+
+-- a dial that failed
+pub dial_fails : (spec : List ℕ) (e : Failed) (a b : Links) → DialsLink spec (Err e) a b
+    → FailedOnce a.dialled a.faults b.faults
+dial_fails spec e a b dials = once_by a.dialled e a.faults b.faults dials.faults
+
+-- a dial, and a nonce that was drawn
+pub dial_well : (spec : List ℕ) (link : ℕ) (a b : Links) → DialsLink spec (Ok link) a b
+    → NoneFailed a.faults b.faults
+dial_well spec link a b dials = none_by a.dialled link a.faults b.faults dials.faults
+
+pub nonce_well : (link : ℕ) (nonce : List ℕ) (a b : Links) → AsksNonce link (Ok nonce) a b
+    → NoneFailed a.faults b.faults
+nonce_well link nonce a b asks = none_by link nonce a.faults b.faults asks.faults
+
 -- a nonce that could not be drawn for the link that was dialled
-pub rose_then : (spec : List ℕ) (link : ℕ) (e : Failed) (a b c d : Links)
+pub nonce_fails : (spec : List ℕ) (link : ℕ) (e : Failed) (a b c d : Links)
     → DialsLink spec (Ok link) a b → AsksNonce link (Err e) b c → d ≡ c
-    → CountRose (a.faults a.dialled) (d.faults a.dialled)
-rose_then spec link e a b c d dials asks same =
-    let rose : CountRose (b.faults a.dialled) (c.faults a.dialled) =
-    subst (λ (k : ℕ). CountRose (b.faults k) (c.faults k)) dials.made.0 asks.faults.failed in
-    subst (λ (l : Links). CountRose (a.faults a.dialled) (l.faults a.dialled)) (sym same)
-    (rose_before _ _ _ ((grow_dial spec (Ok link) a b dials).faults a.dialled) rose)
+    → FailedOnce a.dialled a.faults d.faults
+nonce_fails spec link e a b c d dials asks same =
+    let failed : FailedOnce a.dialled b.faults c.faults =
+    subst (λ (k : ℕ). FailedOnce k b.faults c.faults) dials.made.0
+    (once_by link e b.faults c.faults asks.faults) in
+    subst (λ (l : Links). FailedOnce a.dialled a.faults l.faults) (sym same)
+    (once_behind a.dialled a.faults b.faults c.faults (dial_well spec link a b dials) failed)
 
 -- the call on the link of this number failed
 pub dial_stops : (words : List LinkWords) (links : List Dialled) (i : ℕ) (w : LinkWords)
     (e : Failed) (o0 o1 o2 : Outside) → o0.links.dialled ≡ 0 → length links ≡ i
     → slice_get words i ≡ Some w → i < length words → AreDialled words links
-    → MakesLinks (take i words) o0.links o1.links
+    → MakesLinks (take i words) o0.links o1.links → NoneFailed o0.links.faults o1.links.faults
     → MakesOne {T = Unit {0}} w (Err e) o1.links o2.links → DialsAll words links (Err e) o0 o2
-dial_stops words links i w e o0 o1 o2 none long there within are makes one =
+dial_stops words links i w e o0 o1 o2 none long there within are makes unfailed one =
     let len : (n : ℕ) → n ≤ length words → length (take n words) ≡ n =
     λ n most. omega (arith, length-take n words, most) in
     let at : o1.links.dialled ≡ length links =
     omega (arith, makes.dialled, none, len i (omega (arith, within)), long) in
-    let rose1 : CountRose (o1.links.faults (length links)) (o2.links.faults (length links)) =
-    subst (λ (k : ℕ). CountRose (o1.links.faults k) (o2.links.faults k)) at one.0 in
+    let failed : FailedOnce (length links) o1.links.faults o2.links.faults =
+    subst (λ (k : ℕ). FailedOnce k o1.links.faults o2.links.faults) at one.0 in
     let all : MakesAll words [] (length links) (Err e) o0.links o2.links =
-    (omega (arith, within, long), rose_before _ _ _ (makes.grows.faults (length links)) rose1) in
+    (omega (arith, within, long), once_behind (length links) _ _ _ unfailed failed) in
     elim one.1 [
       | inl none_made ↦ record {
         made = take i words ++ [];

@@ -97,13 +97,15 @@ module _ (clients : Meaning) (limits : Limits) (words : List LinkWords) (two : T
   pub broken_early : (begin : Journal) → stood ≡ journal begin
       → RanSoFar clients limits words begin o o'
   broken_early begin began =
-      unbegun clients limits words [] begin o o' none (no_links_made o o' same) (still begin began)
+      unbegun clients limits words [] begin o o' none (no_links_made o o' same)
+      (λ i. ap (λ (l : Links). l.faults i) same) (still begin began)
 
   -- for want of memory
   pub starved_early : (begin : Journal) → stood ≡ journal begin
       → RanShort clients limits words begin o o'
   starved_early begin began =
       unbegun_starved clients limits words [] begin o o' none (no_links_made o o' same)
+      (λ i. ap (λ (l : Links). l.faults i) same)
       (still begin began)
 
   pub load_comes : (came : Outcome) → LoadedBy o o' (Err came) → IsLoaded stood (Err came)

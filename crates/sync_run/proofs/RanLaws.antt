@@ -9,6 +9,7 @@ use Rattle.std.proofs.lemmas.Bool.{cases_Bool}
 use Rattle.std.proofs.lemmas.Option.{slice_get-map}
 use Rattle.outside.specs.declared.limits.TheConstants.{MAX_JOURNAL}
 use Rattle.outside.specs.Disk.{RelatesTold}
+use Rattle.outside.specs.Faults.{CountRose}
 use Rattle.outside.proofs.CallSteps.{becomes_told}
 use Rattle.outside.specs.Files.{File, ReadsSame, Two, read_files}
 use Rattle.outside.specs.Links.{HeardOn, Links, sent_of}
@@ -31,7 +32,7 @@ use Rattle.store_commands.specs.Stopping.{StoodFor}
 use Rattle.sync_course.specs.Acts.{Act, AtFront, Does, batches_in, commit_acts, events_of}
 use Rattle.sync_course.specs.Acts.{next_bytes, sends_on}
 use Rattle.sync_course.specs.Closing.{Closing}
-use Rattle.sync_course.specs.Events.{Commit, Event, GrowsBy, RoseIf, batches_of, has_failure}
+use Rattle.sync_course.specs.Events.{Commit, Event, GrowsBy, batches_of, failures_after, has_failure}
 use Rattle.sync_course.specs.Free.{Free, FreeStep, first_free, forget, owing_free}
 use Rattle.sync_course.specs.Links as course_links
 use Rattle.sync_course.specs.Owing.{ActStep, Owing, paid}
@@ -47,6 +48,7 @@ use Rattle.sync_course.proofs.FailLaws.{FailsJust, path_fails}
 use Rattle.sync_course.proofs.FreeLaws.{run_acts_are_free}
 use Rattle.sync_course.proofs.PathLaws.{path_then}
 use Rattle.sync_course.proofs.SendLaws.{events_path}
+use Rattle.sync_course.proofs.ToldLaws.{rose_after}
 use Rattle.sync_node.specs.Courses.{FitsWith, ReadsAs}
 use Rattle.sync_node.specs.OnRuns.{RunActs}
 use Rattle.sync_node.specs.Output.{heard_on, output, sent_on}
@@ -57,11 +59,11 @@ use Rattle.sync_words.specs.declared.outcome.Outcome.TheVariants as outcome
 use Rattle.sync_run.specs.declared.run.Limits.{Limits}
 use Rattle.sync_run.specs.Courses.{HearsRun, OfJournal, RanShort, RanSoFar, RanToEnd}
 use Rattle.sync_run.specs.Courses.{ReadsShort, RunComesTo, RunWasSpent, WasFull, WasOver}
-use Rattle.sync_run.specs.Courses.{run_test, terms_of}
+use Rattle.sync_run.specs.Courses.{dialled_faults, run_test, terms_of}
 use Rattle.sync_run.specs.Dialling.{MakesLinks, PassesTime, unheard}
 use Rattle.sync_run.specs.Headline.{AllSentWhenFull, IsUntouched, LeavesFilesAtRest, RunLeaves}
 use Rattle.sync_run.specs.Headline.{SentWhole, StandsForRun, sent_at_moment}
-use Rattle.sync_run.specs.Parts.{AnswersAt, FillsAt, RanOnLinks}
+use Rattle.sync_run.specs.Parts.{AnswersAt, FillsAt, RanOnLinks, undialled_link}
 use Rattle.sync_run.proofs.LeavingLaws.{reads_still}
 use Rattle.sync_run.proofs.EndLaws.{course_by_heard}
 use Rattle.sync_run.proofs.HeardLaws.{commits_bring, path_few, path_told, told_of}
@@ -168,9 +170,9 @@ module _ (clients : Meaning) (limits : Limits) (words : List LinkWords) (s : Sto
       ran.did.to
       ran.did.acts ran.did.path
 
-  hears : HearsRun way.events o0.links o3.links
+  hears : HearsRun (undialled_link r) way.events o0.links o3.links
   hears =
-      same_links (HearsRun way.events) (record {
+      same_links (HearsRun (undialled_link r) way.events) (record {
         heard =
             ran.hears.heard
             ∙ ap (λ (l : List HeardOn). option_map (λ (h : List HeardOn). l) o1.links.heard)
@@ -179,8 +181,9 @@ module _ (clients : Meaning) (limits : Limits) (words : List LinkWords) (s : Sto
             subst (λ (l : List ℕ). GrowsBy l o1.links.readings o2.links.readings)
             (sym way.thins.readings) ran.hears.readings;
         faults = λ link.
-            subst (λ (b : Bool). RoseIf b (o1.links.faults link) (o2.links.faults link))
-            (sym (way.thins.failures link)) (ran.hears.faults link);
+            ran.hears.faults link
+            ∙ sym (way.thins.counts link
+            (dialled_faults (undialled_link r) link (o1.links.faults link)));
       })
 
   -- nothing was done, or all links were made
@@ -425,8 +428,8 @@ module _ (clients : Meaning) (limits : Limits) (words : List LinkWords) (s : Sto
 
   -- ---- its course
 
-  abbrev was : RanSoFar clients limits words loaded.of o0 o3
-  was = record {
+  abbrev was : undialled_link r ≡ None → RanSoFar clients limits words loaded.of o0 o3
+  was none = record {
     sessions = ran.sessions;
     planned = ran.planned;
     all_planned = ran.all_planned;
@@ -436,7 +439,8 @@ module _ (clients : Meaning) (limits : Limits) (words : List LinkWords) (s : Sto
     all_made = λ begun.
         all_made (λ none.
         absurd (omega (arith, begun, ap (λ (x : Owing Place). x.at.facts.begun) none)));
-    hears = hears;
+    hears =
+        subst (λ (d : Option ℕ). HearsRun d way.events o0.links o3.links) none hears;
     reads =
         subst (λ (bs : Journal). ReadsAs clients o3.files (loaded.of ++ bs)) (sym way.thins.batches)
         (ran.did.reads.0, stills.same_files ∙ ran.did.reads.1, ran.did.reads.2);
@@ -482,9 +486,11 @@ module _ (clients : Meaning) (limits : Limits) (words : List LinkWords) (s : Sto
     sent_full is told begin final began at_end i begun = elim (answer_as (Err outcome.Full) is) [
       | inl fills ↦ elim (cases_Bool (has_failure i (events_of ran.did.acts))) [
         | inl failed ↦
-            inl (subst (λ (b : Bool). RoseIf b (o0.links.faults i) (o3.links.faults i))
-            (way.thins.failures i ∙ failed)
-            (hears.faults i))
+            inl (subst (CountRose (o0.links.faults i))
+            (sym (hears.faults i
+            ∙ ap (λ (x : Result Closing Outcome). failures_after i way.events
+            (dialled_faults (undialled_link x) i (o0.links.faults i))) is))
+            (rose_after i way.events (o0.links.faults i) (way.thins.failures i ∙ failed)))
         | inr well ↦
             inr (sent_as told begin final began at_end i
             (well_sent told (filled_sent fills.0) i well))
@@ -506,7 +512,7 @@ module _ (clients : Meaning) (limits : Limits) (words : List LinkWords) (s : Sto
         let course : Course clients terms ran.sessions (facts loaded.of) way.events ran.did.to.at =
         record { numbered = refl; path = way.path; at_end = answer.0.at_end } in
         record {
-          run = was;
+          run = was (ap undialled_link is);
           at_end = answer.0.at_end;
           all_made =
               all_made (λ none.
@@ -526,10 +532,10 @@ module _ (clients : Meaning) (limits : Limits) (words : List LinkWords) (s : Sto
           short = short_as answer.2;
         }
 
-    over : FillsAt clients terms ran.did.to now → ReadsShort o2.files
+    over : r ≡ Err outcome.Full → FillsAt clients terms ran.did.to now → ReadsShort o2.files
         → WasOver clients limits words loaded.of o0 o3
-    over fills short = record {
-      run = was;
+    over is fills short = record {
+      run = was (ap undialled_link is);
       batch = fills.batch;
       next = fills.next.at;
       steps = fills.steps.1;
@@ -552,16 +558,18 @@ module _ (clients : Meaning) (limits : Limits) (words : List LinkWords) (s : Sto
     of_journal : (P : Journal → Type 0) → P loaded.of → OfJournal words stood None P
     of_journal P has = record { before = loaded.of; stood = loaded.stood; has = (tested, has) }
 
-    broken : (begin : Journal) → stood ≡ journal begin → RanSoFar clients limits words begin o0 o3
-    broken begin began =
-        subst (λ (j : Journal). RanSoFar clients limits words j o0 o3) (same_begin begin began) was
+    broken : r ≡ Err outcome.DiskFault → (begin : Journal) → stood ≡ journal begin
+        → RanSoFar clients limits words begin o0 o3
+    broken is begin began =
+        subst (λ (j : Journal). RanSoFar clients limits words j o0 o3) (same_begin begin began)
+        (was (ap undialled_link is))
 
     starved : r ≡ Err outcome.Memory → (begin : Journal) → stood ≡ journal begin
         → RanShort clients limits words begin o0 o3
     starved is begin began =
         subst (λ (j : Journal). RanShort clients limits words j o0 o3) (same_begin begin began)
         (record {
-          run = was;
+          run = was (ap undialled_link is);
           short = λ begun. short_as (answer_as (Err outcome.Memory) is begun);
         })
 
@@ -575,11 +583,11 @@ module _ (clients : Meaning) (limits : Limits) (words : List LinkWords) (s : Sto
     comes (Err outcome.Full) is =
         of_journal (λ j. WasFull clients limits words j o0 o3)
         (elim (answer_as (Err outcome.Full) is) [
-          | inl fills ↦ inl (over fills.0 fills.1)
+          | inl fills ↦ inl (over is fills.0 fills.1)
           | inr spent ↦ inr (spent_as spent)
         ])
     comes (Err outcome.Memory) is = starved is
-    comes (Err outcome.DiskFault) is = broken
+    comes (Err outcome.DiskFault) is = broken is
     comes (Err e) is = absurd (answer_as (Err e) is)
 
     pub ran_told : LeavesFilesAtRest o2.files r → RanTold clients limits words two o0 o3 r

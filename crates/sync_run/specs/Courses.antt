@@ -1,12 +1,14 @@
 -- What a run of sessions does, as a course: the journal, the answers heard and the readings of the
 -- clock are those of a path of events, and it closes as the links are said to have ended.
-use Rattle.std.specs.Prelude.{◌≡◌, ◌≢◌, ◌⊎◌, ℕ, ◌+◌, ◌<◌, Bool, true, false, if◌then◌else◌, nat_le}
+use Rattle.std.specs.Prelude.{◌≡◌, ◌≢◌, ◌⊎◌, ℕ, ◌+◌, ◌<◌, Bool, true, false, if◌then◌else◌, nat_eq}
+use Rattle.std.specs.Prelude.{nat_le}
 use Rattle.std.specs.Prelude.{nat_lt, List, ◌++◌, length, map, Option, None, Some, Result, Ok, Err}
 use Rattle.std.specs.Prelude.{slice_get}
 use Rattle.std.specs.List.{list_any}
 use Rattle.std.specs.Option.{option_map}
 use Rattle.outside.specs.declared.limits.TheConstants.{MAX_JOURNAL}
 use Rattle.outside.specs.Disk.{RelatesTold}
+use Rattle.outside.specs.Faults.{one_more}
 use Rattle.outside.specs.Files.{Two, File, read_files, ReadsSame}
 use Rattle.outside.specs.Links.{HeardOn, Links, ToldLink}
 use Rattle.outside.specs.Outside.{Outside}
@@ -21,7 +23,7 @@ use Rattle.sync_rules.specs.Facts.{Facts, Journal, facts}
 use Rattle.entry_codec.specs.declared.naming.Format.TheVariants as kind
 use Rattle.entry_codec.specs.Standing.{Standing, damaged, journal, no_store}
 use Rattle.sync_course.specs.Closing.{Closing, closing}
-use Rattle.sync_course.specs.Events.{Commit, Event, GrowsBy, RoseIf, batches_of, has_failure}
+use Rattle.sync_course.specs.Events.{Commit, Event, GrowsBy, batches_of, failures_after}
 use Rattle.sync_course.specs.Events.{heard_after, readings_of}
 use Rattle.sync_course.specs.Links as course_links
 use Rattle.sync_course.specs.Quiet.{EndsQuiet}
@@ -49,14 +51,21 @@ terms_at limits first = record { first = first; turns = limits.turns; quiet = li
 abbrev pub terms_of : Limits → Journal → Terms
 terms_of limits begin = terms_at limits (facts begin).begun
 
+-- a link's count of failures behind the dials: one more where it is the one that could not be dialled
+abbrev pub dialled_faults : Option ℕ → ℕ → ℕ → ℕ
+dialled_faults None link count = count
+dialled_faults (Some undialled) link count =
+    if nat_eq undialled link then one_more count else count
+
 -- From a host on which no link was made: what the links heard and what the clock gave is what the
--- events say, wherever it is told; and the count of a link's failures rose where an event says that
--- a call of it failed.
-pub record HearsRun (events : List Event) (old new : Links) : Type 0 where
+-- events say, wherever it is told; and the count of a link's failures rose by one where it could
+-- not be dialled, and for each event that says that a call of it failed.
+pub record HearsRun (undialled : Option ℕ) (events : List Event) (old new : Links) : Type 0 where
   pub heard : new.heard
       ≡ option_map (λ (h : List HeardOn). heard_after events (unheard new.dialled)) old.heard
   pub readings : GrowsBy (readings_of events) old.readings new.readings
-  pub faults : (link : ℕ) → RoseIf (has_failure link events) (old.faults link) (new.faults link)
+  pub faults : (link : ℕ) → new.faults link
+      ≡ failures_after link events (dialled_faults undialled link (old.faults link))
 
 -- where files are told, the file of the journal is in format 2
 abbrev pub ReadsShort : Option (Two File) → Type 0
@@ -79,7 +88,7 @@ pub record RanSoFar (clients : Meaning) (limits : Limits) (words : List LinkWord
   pub course : Path (RunStep clients (terms_of limits begin)) (first_place sessions (facts begin))
       events last
   pub all_made : (facts begin).begun < last.facts.begun → new.links.dialled ≡ length words
-  pub hears : HearsRun events old.links new.links
+  pub hears : HearsRun None events old.links new.links
   pub reads : ReadsAs clients new.files (begin ++ batches_of events)
 
 -- Memory was wanting. Where a session had begun, the journal is in format 2.

@@ -1,11 +1,11 @@
 -- Links that are dialled for the words of a command, before anything is committed.
-use Rattle.std.specs.Prelude.{◌≡◌, ◌⊎◌, ℕ, zero, suc, ◌+◌, ◌<◌, ◌≤◌, List, [], ◌∷◌, ◌++◌, length}
+use Rattle.std.specs.Prelude.{◌≡◌, ◌≢◌, ◌⊎◌, ℕ, zero, suc, ◌+◌, ◌<◌, ◌≤◌, List, [], ◌∷◌, ◌++◌, length}
 use Rattle.std.specs.Prelude.{map, Some, Result, Ok, Err, slice_index_or}
 use Rattle.std.specs.Option.{option_map}
 use Rattle.outside.specs.declared.failed.Failed.{Failed}
 use Rattle.outside.specs.Calls.{NoCall}
 use Rattle.outside.specs.Disk.{RelatesTold}
-use Rattle.outside.specs.Faults.{CountRose}
+use Rattle.outside.specs.Faults.{one_more}
 use Rattle.outside.specs.Files.{Two, File, IsImage}
 use Rattle.outside.specs.Links.{HeardOn, ToldLink, Links, nothing_heard}
 use Rattle.outside.specs.Outside.{Moment, Outside}
@@ -39,19 +39,29 @@ pub record MakesLinks (words : List LinkWords) (old new : Links) : Type 0 where
   pub heard : new.heard ≡ option_map (λ (hs : List HeardOn). hs ++ unheard (length words)) old.heard
   pub same_readings : new.readings ≡ old.readings
 
--- a link was made, with a nonce where the words ask for one; or a call on it failed, its dial or
--- another
+-- no call of a link failed
+abbrev pub NoneFailed : (old new : ℕ → ℕ) → Type 0
+NoneFailed old new = (i : ℕ) → new i ≡ old i
+
+-- one call of this link failed, and no other call of a link
+pub record FailedOnce (link : ℕ) (old new : ℕ → ℕ) : Type 0 where
+  pub once : new link ≡ one_more (old link)
+  pub others : (i : ℕ) → i ≢ link → new i ≡ old i
+
+-- a link was made, with a nonce where the words ask for one, and no call failed; or one call on it
+-- failed, its dial or the drawing of its nonce
 abbrev pub MakesOne : {T : Type 0} → LinkWords → Result T Failed → Links → Links → Type 0
-MakesOne w (Ok _) old new = MakesLinks (w ∷ []) old new
-MakesOne w (Err _) old new = CountRose (old.faults old.dialled) (new.faults old.dialled) ×
+MakesOne w (Ok _) old new = MakesLinks (w ∷ []) old new × NoneFailed old.faults new.faults
+MakesOne w (Err _) old new = FailedOnce old.dialled old.faults new.faults ×
     (MakesLinks [] old new ⊎ MakesLinks (w ∷ []) old new)
 
--- all links were made; or so many, and a call on the next one failed
+-- all links were made, and no call failed; or so many, and one call on the next one failed
 abbrev pub MakesAll : List LinkWords → (made : List LinkWords) → ℕ → Result (Unit {0}) Failed
     → Links → Links → Type 0
-MakesAll words made count (Ok _) old new = (made ≡ words) × (count ≡ length words)
-MakesAll words made count (Err _) old new = (count < length words) × CountRose (old.faults count)
-    (new.faults count)
+MakesAll words made count (Ok _) old new =
+    (made ≡ words) × (count ≡ length words) × NoneFailed old.faults new.faults
+MakesAll words made count (Err _) old new =
+    (count < length words) × FailedOnce count old.faults new.faults
 
 -- Links were dialled for these words, up to a call that failed. There were none before.
 pub record DialsAll (words : List LinkWords) (links : List Dialled)

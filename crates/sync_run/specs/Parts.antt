@@ -1,6 +1,6 @@
 -- What the parts of a run come to, as parts of its course.
-use Rattle.std.specs.Prelude.{◌≡◌, ◌⊎◌, ℕ, ◌<◌, Bool, false, List, [], ◌++◌, length, is_some, Some}
-use Rattle.std.specs.Prelude.{map, OnOk, Result, Ok, Err}
+use Rattle.std.specs.Prelude.{◌≡◌, ◌⊎◌, ℕ, ◌<◌, Bool, false, List, [], ◌++◌, length, is_some}
+use Rattle.std.specs.Prelude.{map, OnOk, Option, None, Some, Result, Ok, Err}
 use Rattle.outside.specs.declared.limits.TheConstants.{MAX_JOURNAL}
 use Rattle.outside.specs.Files.{Two, File}
 use Rattle.outside.specs.Outside.{Outside}
@@ -181,6 +181,12 @@ RanDialled clients limits links s o o' result =
 
 -- ---- with the dials before it
 
+-- the link that could not be dialled, where that ended the command
+abbrev pub undialled_link : Result Closing Outcome → Option ℕ
+undialled_link (Ok ends) = None
+undialled_link (Err (outcome.LinkFailed link)) = Some link
+undialled_link (Err _) = None
+
 -- Links were dialled for these words, and sessions of all words ran on them; or a dial failed, and
 -- nothing more was done.
 pub record RanOnLinks (clients : Meaning) (limits : Limits) (words : List LinkWords) (j : Journal)
@@ -191,7 +197,7 @@ pub record RanOnLinks (clients : Meaning) (limits : Limits) (words : List LinkWo
   pub did : RunDid clients (terms_of limits j) (first_place sessions (facts j)) j o o'
   pub made : (o'.links.dialled ≡ length words) ⊎ (did.acts ≡ [])
   pub grows : LinksGrow o.links o'.links
-  pub hears : HearsRun (events_of did.acts) o.links o'.links
+  pub hears : HearsRun (undialled_link result) (events_of did.acts) o.links o'.links
   pub answer : AnswersAt clients limits (terms_of limits j) did.to (j ++ batches_in did.acts)
       (ReadsShort o'.files) (MayMigrate o.files) (RunWasSpent words o o') (o'.files ≡ o.files)
       result

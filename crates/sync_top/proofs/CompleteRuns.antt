@@ -184,7 +184,7 @@ module _ (clients : Meaning) (limits : Limits) (words : List LinkWords) (old new
         (same_begin comes.before comes.stood) comes.has.1 in
         subst ComesOut (sym is) (inl (course_decides may.before lines caused ran may.stood))
     result_comes (Err (outcome.LinkFailed link)) came is caused comes =
-        absurd (links link caused.1)
+        absurd (links link (omega (arith, caused.1.once)))
     result_comes (Err outcome.DiskFault) came is caused comes = absurd (disk caused)
     result_comes (Err outcome.Memory) came is caused comes = inr (ap status_of is)
     result_comes (Err outcome.NoStore) came is caused comes =

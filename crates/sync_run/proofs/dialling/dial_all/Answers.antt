@@ -8,7 +8,7 @@ use Rattle.sync_run.specs.declared.dialling.Dialled.{Dialled}
 use Rattle.sync_run.specs.Dialling.{DialsAll}
 use Rattle.sync_run.specs.Plans.{ArePlanned, sessions_from}
 use Rattle.sync_run.proofs.RunActs.{passed}
-use Rattle.sync_run.proofs.DialLaws.{calms_then, dial_stops, dialled_push, makes_next, pushed}
+use Rattle.sync_run.proofs.DialLaws.{calms_then, dial_stops, dialled_push, makes_next, none_then, pushed}
 use Rattle.sync_run.proofs.dialling.dial_all.Goals as goal
 
 pub returns-in_err-nonce-clause-dials : goal.returns-in_err-nonce-clause-dials
@@ -25,7 +25,8 @@ returns-in_err-nonce-clause-dials g c =
     passed (λ (r : Result (Unit {0}) Failed). DialsAll words c.links.to.items r o0 o2)
     c.from_residual.result e c.from_residual.ensures.1
     (dial_stops words c.links.to.items i c.words-item.result e o0 (g.H.Disk.tells c.links.host) o2
-    c.requires.unused l.count there within l.dialled l.makes c.in_err-nonce.ensures.makes)
+    c.requires.unused l.count there within l.dialled l.makes l.unfailed
+    c.in_err-nonce.ensures.makes)
 
 pub returns-in_err-nonce-clause-calms : goal.returns-in_err-nonce-clause-calms
 returns-in_err-nonce-clause-calms g c =
@@ -56,6 +57,7 @@ links-preserved g c =
             nonce = c.in_ok-nonce.ensures.nonce;
           }));
       makes =
-          makes_next words i c.words-item.result _ _ _ there l.makes c.in_ok-nonce.ensures.makes;
+          makes_next words i c.words-item.result _ _ _ there l.makes c.in_ok-nonce.ensures.makes.0;
+      unfailed = none_then _ _ _ l.unfailed c.in_ok-nonce.ensures.makes.1;
       calms = calms_then _ _ _ l.calms c.dial_one.ensures.calms;
     }

@@ -1,23 +1,29 @@
 use Rattle.std.proofs.Common.{◌∷◌, [], inr, sym, subst}
 use Rattle.outside.specs.Links.{Links}
 use Rattle.sync_run.specs.Dialling.{MakesLinks}
-use Rattle.sync_run.proofs.DialLaws.{calms_dial, calms_nonce, calms_stills, calms_then, makes_asked}
-use Rattle.sync_run.proofs.DialLaws.{makes_dialled, rose_then, stills_call}
+use Rattle.sync_run.proofs.DialLaws.{calms_dial, calms_nonce, calms_stills, calms_then, dial_well}
+use Rattle.sync_run.proofs.DialLaws.{makes_asked, makes_dialled, nonce_fails, nonce_well, none_then}
+use Rattle.sync_run.proofs.DialLaws.{stills_call}
 use Rattle.sync_run.proofs.dialling.dial_one.Goals as goal
 
 pub returns-then-not-has_nonce-clause-makes : goal.returns-then-not-has_nonce-clause-makes
-returns-then-not-has_nonce-clause-makes g c =
-    makes_dialled c.args.words.now _ _ _ _ c.as_str.ensures c.in_ok-link.ensures.links
+returns-then-not-has_nonce-clause-makes g c = (
+  makes_dialled c.args.words.now _ _ _ _ c.as_str.ensures c.in_ok-link.ensures.links,
+  dial_well _ _ _ _ c.in_ok-link.ensures.links,
+)
 
 pub returns-then-not-has_nonce-clause-calms : goal.returns-then-not-has_nonce-clause-calms
 returns-then-not-has_nonce-clause-calms g c =
     calms_dial _ _ _ _ c.dial.ensures.call c.dial.ensures.links
 
 pub returns-in-Ok-clause-makes : goal.returns-in-Ok-clause-makes
-returns-in-Ok-clause-makes g c =
-    makes_asked (c.args.words.now ∷ []) _ _ _ _ _
-    (makes_dialled c.args.words.now _ _ _ _ c.as_str.ensures c.in_ok-link.ensures.links)
-    c.nonce.ensures.links
+returns-in-Ok-clause-makes g c = (
+  makes_asked (c.args.words.now ∷ []) _ _ _ _ _
+      (makes_dialled c.args.words.now _ _ _ _ c.as_str.ensures c.in_ok-link.ensures.links)
+      c.nonce.ensures.links,
+  none_then _ _ _ (dial_well _ _ _ _ c.in_ok-link.ensures.links)
+      (nonce_well _ _ _ _ c.in-Ok.ensures.links),
+)
 
 pub returns-in-Ok-clause-calms : goal.returns-in-Ok-clause-calms
 returns-in-Ok-clause-calms g c =
@@ -29,7 +35,7 @@ returns-in-Err-clause-makes g c =
     let words = c.args.words.now in
     let dials = c.in_ok-link.ensures.links in
     let still = c.hang_up.ensures.links in (
-      rose_then _ _ _ _ _ _ _ dials c.in-Err.ensures.links still,
+      nonce_fails _ _ _ _ _ _ _ dials c.in-Err.ensures.links still,
       inr (subst (λ (l : Links). MakesLinks (words ∷ []) (g.H.Disk.tells c.args.host.now).links l)
           (sym still)
           (makes_asked (words ∷ []) _ _ _ _ _ (makes_dialled words _ _ _ _ c.as_str.ensures dials)

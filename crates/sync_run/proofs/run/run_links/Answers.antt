@@ -1,4 +1,4 @@
-use Rattle.std.proofs.Common.{arith, ℕ, List, [], length, refl, ap, sym, subst, ◌∙◌, Err}
+use Rattle.std.proofs.Common.{arith, ℕ, List, [], length, refl, ap, sym, subst, inl, ◌∙◌, Err}
 use Rattle.sync_words.specs.declared.outcome.Outcome.TheVariants as outcome
 use Rattle.sync_run.specs.declared.dialling.Dialled.{Dialled}
 use Rattle.sync_run.specs.Causes.{IsCaused}
@@ -58,7 +58,7 @@ returns-in-Ok g c =
             (specs_made words _ old dialled c.requires.unused dials.front dials.makes);
         caused =
             caused_amid [] words old dialled new new (omega arith) calms.grows.faults
-            (omega (arith, calms.same_faults)) refl refl c.run_dialled.result run.caused.1;
+            (omega (arith, calms.same_faults)) (inl refl) refl refl c.run_dialled.result run.caused.1;
         leaves = dialled_leaves words old new c.run_dialled.result run.caused.0;
       };
       ran =
@@ -91,6 +91,6 @@ returns-in-Err g c =
           });
       ran = λ j fit.
           subst (RanOnLinks _ c.args.limits words j old dialled) (sym fails)
-          (undialled_ran _ c.args.limits words _ _ _ _ c.requires.unused calms _ c.len.result dials
-          j fit);
+          (undialled_ran _ c.args.limits words _ _ _ _ c.requires.unused calms _ c.len.result
+          (c.len.ensures ∙ c.dial_all.new.to.ok.0) dials j fit);
     }
