@@ -27,6 +27,8 @@ import time
 
 TICKS = os.sysconf('SC_CLK_TCK') * 60
 KINDS = 'proof', 'tests', 'edits'
+# the names of a check and of those that it starts to prove for it
+CHECKS = 'rattle', 'antt-kernel'
 
 
 def text_of(path):
@@ -72,7 +74,7 @@ def purpose(pid):
     except OSError:
         return None
     crate = words[words.index('--crate-name') + 1]
-    return crate, 'edits' if re.search(r'/rt-edits?-\d+-', place) else 'tests' if '--test' in words else 'proof'
+    return crate, 'edits' if re.search(r'/rt-edits?-\w+(-|$)', place) else 'tests' if '--test' in words else 'proof'
 
 
 class Costs:
@@ -86,9 +88,9 @@ class Costs:
         found = processes()
         below = collections.Counter()
         for pid, (parent, name, _, used) in found.items():
-            if name == 'rattle':
+            if name in CHECKS:
                 root = pid
-                while found.get(parent, ('', ''))[1] == 'rattle':
+                while found.get(parent, ('', ''))[1] in CHECKS:
                     root, parent = parent, found[parent][0]
                 below[root] += used
         for root, used in below.items():

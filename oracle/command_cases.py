@@ -16,6 +16,7 @@ A line of commands.txt is one of the driver's (crates/test_play says which), or 
     refuse WORDS                 `try`, and `loaded` beside it: both are refused alike
     alone WORDS                  `try` of a command that uses no store
     usage N WORDS                the word of this number is wrong
+    words WORDS                  what is read of these words, with its parts; the line behind it says what
     find FOUND                   FOUND is `none`, `damaged FILE PLACE` or `contacts N`
     bases HEX ..                 the files that the next lines change: `invert PLACE FOUND`, `set PLACE VALUE FOUND`, `cut LENGTH FOUND` (the
                                  same in file 1) and `raw HEX FOUND`, of what stands in the place of the closed gate
@@ -26,16 +27,17 @@ A line of commands.txt is one of the driver's (crates/test_play says which), or 
     unwritten WORDS              a command whose writes of the error output fail in turn
 """
 import hashlib
+import itertools
 import os
 import re
 import sys
 
 from audits import Audited, rows as audit_rows
-from digests import message_id
+from digests import group_id, message_id
 from journal import SHORT, WHOLE, frames, respelled
 from migration import migrated
 from old_stores import NOTES, SCENES as OLD_SCENES, THREADS, adds_contact, bare, heard, held, looks_at, show_text
-from run_model import BATCH, Store, VISIBLE, calls_of_clear, message_record
+from run_model import BATCH, Journal, Store, VISIBLE, calls_of_clear, message_record, record_bytes
 from sharing import ALL_CLIENTS, NOTE, SCENES as SHARING_SCENES, SEEDS, THREAD, Person, agrees_at_length, agrees_at_random
 from store_file import CLOSED, OPEN, framed, header
 
@@ -121,7 +123,7 @@ class Text:
         self.files = [framed(header(spelled, generation), payloads), b'']
 
     def tell(self, kind, words, outcome, *prepared):
-        """A command of one of the kinds `try`, `run` and `loaded`."""
+        """A command of one of the kinds `try`, `run`, `loaded` and `words`."""
         self.say(*prepared, f'{kind} {typed(words)}')
         self.answers += [f'> {expanded(words)}', *outcome.lines(self.files)]
         if kind == 'run':
@@ -275,7 +277,7 @@ class Reader:
         if kind == 'let':
             name, _, value = rest.partition(' ')
             self.names[name] = value
-        elif kind in ('run', 'try', 'refuse', 'alone', 'unwritten'):
+        elif kind in ('run', 'try', 'words', 'refuse', 'alone', 'unwritten'):
             self.command, self.outcome, self.adds = (kind, rest), Outcome(), []
         elif kind == 'scene':
             self.text.case('a command that fails: ' + rest)
@@ -326,7 +328,7 @@ class Reader:
             for each in ('try', 'loaded'):
                 self.text.tell(each, words, self.outcome, *prepared)
         else:
-            self.text.tell('run' if kind == 'run' else 'try', words, self.outcome, *prepared)
+            self.text.tell(kind if kind in ('run', 'words') else 'try', words, self.outcome, *prepared)
 
     def play(self, kind, rest):
         text, words = self.text, rest.split()
@@ -566,6 +568,62 @@ def play_cascade(text):
     text.tell('run', 'contact', Outcome(out.encode(), after=[(0, framed(header(SHORT, 1), before + added))]))
 
 
+# which messages of a diamond come in which order: 1 its root, 2 and 3 its sides, 4 its end; 0 is an ACK, and 101 is of another group.
+# And whether the root is refused
+PLAYS = (([1, 2, 3, 4], False), ([4, 3, 2, 1], False), ([2, 4, 1, 3], False), ([4, 1, 3, 2], False), ([1, 1, 2, 1, 2], False),
+         ([2, 0, 101, 1, 0], False), ([4, 2, 3, 1], True), ([1, 2], True), ([2, 4, 3], False), ([101, 0], False))
+# which messages each of a chain, and each of a diamond, names
+CHAIN, DIAMOND = ((), (0,), (1,), (2,)), ((), (0,), (0,), (1, 2))
+
+
+def told_of(group, messages):
+    """What `try` prints of these messages, by the model of a node: each step as it is taken, and what is pending at the end."""
+    journal, told = Journal(), []
+    for entry in (('contact', 0), ('group', *group), ('level', 0, group_id(*group), VISIBLE), ('session', 0, 0, BATCH, 1000, None)):
+        journal.apply(entry)
+    line = lambda kind, id: f'{kind} {id.hex()} {journal.find(id).timestamp} {len(journal.find(id).body)}\n'
+    for message in messages:
+        for entry in journal.taken(0, ('message', *message)):
+            journal.apply(entry)
+        for batch in journal.settling():
+            told += [line(kind, id) for kind, id in batch if kind != 'judged']
+    told += [line('pending', held.id) for held in journal.held if journal.state(held) == 'pending']
+    return ''.join(told).encode()
+
+
+def woven(group, parents_of, time, text_of):
+    """Thread messages, each of which names some before it: by its number how they are named, when it was written, and its text."""
+    messages = []
+    for number, parents in enumerate(parents_of):
+        ids = [message_id(*messages[parent]) for parent in parents]
+        messages.append((group, time(number), bytes([len(ids)]) + b''.join(ids) + text_of(number)))
+    return messages
+
+
+def play_tries(text):
+    """Messages that wait for others, in many orders."""
+    group = (b'thread', 0, b'd')
+    own, other = group_id(*group), group_id(b'thread', 0, b'e')
+
+    def hear(records, messages):
+        told = Outcome(told_of(group, messages), asks=False)
+        text.tell('try', 'try thread d', told, 'input ' + b''.join(records).hex())
+
+    text.case('streams of a diamond, of which some are refused, some come twice, and some not at all')
+    for heard, refuses in PLAYS:
+        texts = [b'\xff' if refuses and number == 0 else bytes([number + 1]) * (number + 1) for number in range(4)]
+        named, away = (woven(it, DIAMOND, lambda number: 1001 + number, lambda number: texts[number]) for it in (own, other))
+        acknowledged = record_bytes(0, message_id(*named[0]))
+        messages = [(away if number > 100 else named)[number % 100 - 1] for number in heard if number]
+        hear([acknowledged if number == 0 else message_record(*(away if number > 100 else named)[number % 100 - 1]) for number in heard], messages)
+    text.case('a chain and a diamond in every order')
+    for order in itertools.permutations(range(4)):
+        for parents_of in (CHAIN, DIAMOND):
+            named = woven(own, parents_of, lambda number: 5, lambda number: b'abcd'[number:number + 1])
+            messages = [named[number] for number in order]
+            hear([message_record(*message) for message in messages], messages)
+
+
 def play_audits(text):
     text.case('audits')
     for first, second, line in audit_rows():
@@ -585,6 +643,7 @@ def made():
     play_taken_back(text)
     play_settled(text)
     play_cascade(text)
+    play_tries(text)
     play_audits(text)
     return text
 

@@ -8,7 +8,7 @@ from journal import SHORT, WHOLE, respelled
 from old_stores import bare, heard
 from sharing import NOTE
 from store_file import framed, header
-from run_model import record_bytes
+from run_model import IDLE, Node, PIECE, SHARED, record_bytes
 
 NOTES, THREADS, FEEDS, CYCLE = (group_id(name, 0, b'd') for name in (b'note', b'thread', b'feed', b'cycle'))
 ROW_8 = '0004000100 00090002aabb 00050010000102030405060708090a0b0c0d0e0f'.replace(' ', '')
@@ -193,6 +193,286 @@ def named():
     for time, body in ((3, third), (2, second), (1, bad)):
         say('got 0 ' + message(THREADS, time, body).hex())
     say('end 0 1', 'sync 9 1 0 batch 10 std')
+
+
+# ---- a record at a time, what is due behind it, and when
+
+def each_record():
+    """A table: what each record is taken as, by the level of the contact. It has seen one message, and another id is wanted of it."""
+    unknown, wanted = some_ids(0, 1), some_ids(1, 1)
+    held, seen = (message_id(NOTES, 7, body) for body in (b'h', b's'))
+    table = (('versions', record_bytes(4, b'\0')), ('a priority', record_bytes(5, b'\1' * 16)), ('a message of no group', message(bytes(32), 7, b'n')),
+             ('acks', ids_record(0, [held, seen, *unknown, held])), ('offers', ids_record(2, [*unknown, held, *wanted, *unknown, held])),
+             ('requests', ids_record(3, [seen, *unknown, held, seen])), ('a message that is held', message(NOTES, 7, b'h')),
+             ('another message', message(NOTES, 7, b'n')))
+    for level in ('invisible', 'visible', 'shared'):
+        for name, record in table:
+            case('of a group that is %s: %s' % (level, name))
+            contacts(2)
+            group('note', NOTES, (0, 'visible'))
+            post(NOTES, 7, b'h')
+            post(NOTES, 7, b's')
+            say('got 0 ' + (ids_record(0, [seen]) + ids_record(2, wanted)).hex(), 'sync 1 1 0 batch 1 std')
+            say('do share 0 %s %s' % (NOTES.hex(), level), 'got 0 ' + record.hex(), 'sync 1 1 0 batch 1 std')
+
+
+def unknown_ids():
+    case('offers of unknown ids, up to the limit of those that are wanted')
+    one_contact()
+    for ids in (some_ids(1, 1) * 1536, some_ids(0, 999), some_ids(998, 3), some_ids(0, 1536)):
+        say('got 0 ' + ids_record(2, ids).hex(), 'sync 1 1 0 batch 1 std')
+    say('idle 0 1', 'sync 1 1 0 interactive 1 listen:x')
+
+
+def all_due():
+    for mode in ('interactive', 'batch'):
+        case('all that may be due: ' + mode)
+        one_contact()
+        for body in (b'h', b'b', b'a'):
+            post(NOTES, 7, body)
+        asks = ids_record(3, [message_id(NOTES, 7, b'a')])
+        say('got 0 ' + (message(NOTES, 7, b'h') + ids_record(2, some_ids(1, 1)) + asks).hex(), 'sync 1 1 0 %s 1 listen:x' % mode)
+
+
+def shut():
+    case('a group that is shut to its sender, and then open; another contact sees it')
+    contacts(2)
+    group('note', NOTES, (1, 'visible'))
+    for level in ('invisible', 'visible'):
+        say('do share 0 %s %s' % (NOTES.hex(), level))
+        say('got 0 ' + message(NOTES, 7, b'm').hex(), 'sync 1 1 0 batch 1000 std', 'states')
+    for mode in ('interactive', 'batch'):
+        say('idle 0 1', 'sync 1 1 1 %s 1000 listen:x' % mode)
+
+
+def waits():
+    def at(now, mode='interactive', latency=30_000, *before):
+        say(*before or ['idle 0 1'], 'clock %d' % now, 'sync 1 1 0 %s %d listen:x' % (mode, latency))
+
+    for mode in ('interactive', 'batch'):
+        case('each offer waits twice as long, and so does what was sent: ' + mode)
+        one_contact()
+        mine = post(NOTES, 7, b'm')
+        for now in (1000, 60_999, 61_000, 180_999, 181_000, 420_999):
+            at(now)
+        at(200_000, 'interactive', 30_000, 'got 0 ' + ids_record(3, [mine]).hex())
+        for now in (259_999, 260_000):
+            at(now, mode)
+        at(260_001, mode)
+
+    case('a wait of many tries ends at the last time that there is')
+    account = [b'\x10' + bytes(4), b'\x01\0', b'\x02\x04note' + bytes(4) + b'\0\x01d', b'\x03\0' + NOTES + b'\2',
+               b'\x11\0\0' + NOTES + bytes(8) + b'\0\x01m', b'\x08' + bytes(4) + b'\x09' + bytes(4), b'\x12\0' + bytes(4) + b'\0\x27' + bytes(8)]
+    say('old ' + framed(header(SHORT, 2), account).hex())
+    for now in (0, 2 ** 64 - 2, 2 ** 64 - 1):
+        at(now, 'interactive', 2 ** 32 - 1)
+
+
+def redundant():
+    low, high = '01' * 16, '02' * 16
+    for nonces in ((low, high, high), (high, low, high), (low, low, low), (low, low, high)):
+        case('three links to one contact: ' + ' '.join(nonce[:2] for nonce in nonces))
+        contacts(1)
+        say(*['nonce ' + nonce for nonce in nonces], *['idle %d 2' % link for link in range(3)])
+        say('sync 2 2' + ''.join(' 0 interactive 1000 tcp:%s' % name for name in 'abc'))
+    for versions in (b'\0\1', b'\1\0', b'\1\2'):
+        case('versions ' + versions.hex())
+        contacts(1)
+        say('got 0 ' + record_bytes(4, versions).hex(), 'end 0 1', 'sync 2 2 0 batch 1000 std')
+
+
+def away():
+    case('messages that rest on one that is refused, or on one of another group')
+    contacts(1)
+    group('thread', THREADS, (0, 'visible'))
+    others = group_id(b'thread', 0, b'other')
+    say('do group thread 0 other', 'do share 0 %s visible' % others.hex())
+    bad, elsewhere = reply([], b'\xff'), reply([], b'elsewhere')
+    second = reply([message_id(THREADS, 5, bad)], b'b')
+    third = reply([message_id(THREADS, 5, second)], b'c')
+    crossing = reply([message_id(others, 5, elsewhere)], b'x')
+    for gid, body in ((THREADS, third), (THREADS, second), (THREADS, crossing), (THREADS, bad), (others, elsewhere)):
+        say('got 0 ' + message(gid, 5, body).hex(), 'sync 1 1 0 batch 1000 std', 'states')
+
+
+def goes_on():
+    case('of a note, a thread and a feed the feed stays with whom it came to')
+    contacts(2)
+    for name, gid in (('note', NOTES), ('thread', THREADS), ('feed', FEEDS)):
+        group(name, gid, (0, 'shared'), (1, 'shared'))
+    for gid, body in ((NOTES, b'x'), (THREADS, reply([], b'x')), (FEEDS, bytes(32) + b'x')):
+        say('got 0 ' + message(gid, 5, body).hex())
+    say('sync 4 1 0 batch 1000 std', 'states', 'sync 1 1 1 batch 1000 std')
+
+
+# ---- what is heard in pieces, and how a link ends
+
+WHOLE_STREAM = bytes.fromhex(ROW_8) + message(NOTES, 0, b'x')
+CLOSING = ('01', 'ff000020', '0000c001', '0009c001', '00000000', '00020021', '00010028', '00018029', '00040000', '0004000b', '0005000f', '00050011',
+           '00010029' + '00' * 32 + '8000000000000000' + '78', '0004000100' + '000900020707' + '01', '0004000101' + '0004000100')
+
+
+def closing():
+    """What closes a link on which a message is due: nothing more is taken of it, and nothing but VERSIONS is sent."""
+    for bytes_ in CLOSING:
+        case('bytes that close a link: %s, %d' % (bytes_[:8], len(bytes_) // 2))
+        one_contact()
+        post(NOTES, 0, b'x')
+        say('got 0 ' + bytes_, 'got 0 0004000100', 'sync 3 1 0 batch 1000 std')
+
+
+def pieces():
+    """A front of VERSIONS, a record of no known type, PRIORITY and a MESSAGE, of each length; and all of it, cut in two there."""
+    for place in range(len(WHOLE_STREAM) + 1):
+        for behind in dict.fromkeys((b'', WHOLE_STREAM[place:])):
+            case('a stream that is %s at %d' % ('cut' if behind else 'at its end', place))
+            one_contact()
+            say(*['got 0 ' + piece.hex() for piece in (WHOLE_STREAM[:place], behind) if piece])
+            say('end 0 1', 'sync 4 1 0 batch 1000 std', 'states')
+
+
+def sends_behind_the_end():
+    case('a link whose other side has ended gets what is due then, and what comes later')
+    contacts(2)
+    group('note', NOTES, (0, 'shared'), (1, 'shared'))
+    post(NOTES, 0, b'x')
+    say('end 0 1', 'idle 1 2', 'got 1 ' + message(NOTES, 1, b'y').hex(), 'sync 5 1 0 batch 1000 std 1 batch 1000 listen:x')
+
+
+def failing_calls():
+    for send in (None, 0, 1, 2):
+        case('a link that fails ' + ('at its first answer' if send is None else 'at its send %d' % send))
+        one_contact()
+        post(NOTES, 0, b'x')
+        say('nonce ' + '07' * 16, *['fail 0 1'] if send is None else ['failsend %d' % send, 'idle 0 1', 'fail 0 1'])
+        say('got 0 0004000100', 'sync 3 1 0 interactive 1000 tcp:x')
+
+
+# ---- records that name what is not known, not seen or of another client, and what comes twice
+
+def bad_input():
+    end = ('idle 0 1', 'sync 9 1 0 interactive 1000 listen:x', 'states')
+    case('an ACK and a REQUEST of ids that are not known')
+    one_contact()
+    say('got 0 0004000100', *['got 0 ' + ids_record(kind, some_ids(0, 2)).hex() for kind in (0, 3)], *end)
+    case('records of a group that the contact does not see')
+    contacts(1)
+    group('note', NOTES)
+    mine = post(NOTES, 0, b'x')
+    say('got 0 0004000100', *['got 0 ' + message(NOTES, 0, body).hex() for body in (b'x', b'y')])
+    say(*['got 0 ' + ids_record(kind, [mine]).hex() for kind in (0, 2, 3)], *end)
+    case('a message of no known client, and a note among threads')
+    one_contact()
+    group('thread', THREADS, (0, 'shared'))
+    say('got 0 0004000100', *['got 0 ' + message(gid, 0, b'x').hex() for gid in (group_id(b'chat', 0, b'd'), THREADS)], *end)
+    for second in (1, 0):
+        case('the same message in one turn on two links, with %s' % ('two contacts' if second else 'one contact'))
+        contacts(1 + second)
+        group('note', NOTES, *[(contact, 'shared') for contact in range(1 + second)])
+        for link in range(2):
+            say('got %d 0004000100%s' % (link, message(NOTES, 0, b'x').hex()))
+        say('sync 1 1 0 batch 1000 std %d batch 1000 listen:x' % second, 'states')
+
+
+# ---- which link is kept: of each its contact, its own nonce, and the one that comes on it
+
+LINKS = (((0, 1, None), (0, 2, None), (0, None, None)), ((0, 2, None), (0, 1, None), (0, None, None)), ((0, 2, None), (0, 2, None), (0, 2, None)),
+         ((0, 1, None), (0, 2, None), (0, 2, None)), ((0, 1, None), (1, 2, None), (0, None, None)), ((0, 1, None), (1, 2, None), (0, 3, None)),
+         ((0, None, 3), (0, None, 4), (0, 1, None)), ((0, None, 3), (0, None, None), (0, None, 3)))
+
+
+def nonce(last):
+    return bytes(15) + bytes([last])
+
+
+def play_links(links, *behind):
+    """These links in two turns, all of them interactive, and a session in batch mode behind them, on which this comes."""
+    contacts(2)
+    words = []
+    for link, (contact, own, heard_) in enumerate(links):
+        if own:
+            say('nonce ' + nonce(own).hex())
+        if heard_:
+            say('got %d %s' % (link, record_bytes(5, nonce(heard_)).hex()))
+        say('idle %d 2' % link)
+        words.append('%d interactive 1000 %s' % (contact, 'tcp:%d' % link if own else 'listen:%d' % link))
+    say(*['got %d %s' % (len(links), bytes_.hex()) for bytes_ in behind])
+    say(' '.join(['sync 2 2', *words, *['0 batch 1000 std' for _ in behind]]))
+
+
+def kept_links():
+    for links in LINKS:
+        case('links ' + ' '.join('%d:%s:%s' % tuple('-' if part is None else part for part in link) for link in links))
+        play_links(links)
+    case('two quiet links, of which the first is closed')
+    play_links(LINKS[0][:2])
+    case('a link whose other side has ended is neither kept nor closed')
+    contacts(1)
+    say('nonce ' + nonce(2).hex(), 'nonce ' + nonce(1).hex(), 'end 0 1', 'idle 1 2')
+    say('sync 3 1 0 interactive 1000 tcp:0 0 interactive 1000 tcp:1')
+    case('the first PRIORITY counts, also in batch mode, where the link has no nonce')
+    play_links(LINKS[1][:1], bytes.fromhex('0004000100') + record_bytes(5, nonce(1)) + record_bytes(5, nonce(3)))
+
+
+# ---- two nodes, each of which hears what the other sends
+
+def forty(mode, nonces, rounds):
+    """What each of two nodes hears while 40 messages of 2,000 letters go from one to the other, by the model of both."""
+    ends, heard_ = [], ([], [])
+    for own in nonces:
+        node = Node()
+        node.add_contact()
+        node.add_group(b'note')
+        node.share(0, NOTES, SHARED)
+        if not ends:
+            for time in range(40):
+                node.post(NOTES, time, b'a' * 2_000)
+        node.attach(0, mode, nonce=own)
+        ends.append(node)
+    carried = [0, 0]
+    for _ in range(rounds):
+        for hears in (1, 0):
+            new = ends[1 - hears].host.sent[0][carried[hears]:]
+            carried[hears] += len(new)
+            heard_[hears].append(new)
+            ends[hears].say(0, new or IDLE)
+            for _ in range(max(1, -(-len(new) // PIECE))):
+                ends[hears].turn_at()
+    assert len(ends[1].journal.delivered) == 40
+    return heard_
+
+
+def pairs():
+    for mode, own, rounds in (('batch', None, 3), ('interactive', b'\7' * 16, 5)):
+        heard_ = forty(mode, (own, None), rounds)
+        for number, pieces_ in enumerate(heard_):
+            case('40 messages of 2,000 letters, %s: who %s them' % (mode, 'gets' if number else 'has'))
+            one_contact()
+            for time in range(0 if number else 40):
+                post(NOTES, time, b'a' * 2_000)
+            say(*['nonce ' + own.hex()] if own and not number else [], *['got 0 ' + piece.hex() if piece else 'idle 0 1' for piece in pieces_], 'idle 0 1')
+            say('sync 20 1 0 %s 1000 %s' % (mode, 'listen:x' if number else 'tcp:x'), 'states')
+
+
+def nodes():
+    closing()
+    pieces()
+    sends_behind_the_end()
+    failing_calls()
+    bad_input()
+    kept_links()
+    pairs()
+
+
+def sessions():
+    each_record()
+    unknown_ids()
+    all_due()
+    shut()
+    waits()
+    redundant()
+    away()
+    goes_on()
 
 
 # ---- runs that are stopped at each call of the disk
@@ -607,6 +887,8 @@ def compacted():
 
 def main():
     named()
+    sessions()
+    nodes()
     crossed()
     stopped()
     failing_links()

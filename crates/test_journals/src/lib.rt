@@ -1,11 +1,8 @@
-//! Entries and journals: the rules, the bundled clients, the bytes of entries and batches, what a
-//! session does, and a journal that is played.
+//! Entries and journals: the rules, a plain view of a journal, and the bytes of entries and batches.
 #![tactic(auto)]
 
 #[cfg(test)]
 mod batches;
-#[cfg(test)]
-mod bodies;
 #[cfg(test)]
 mod checks;
 #[cfg(test)]
@@ -15,11 +12,7 @@ mod fixtures;
 #[cfg(test)]
 mod plain;
 #[cfg(test)]
-mod plays;
-#[cfg(test)]
 mod rules;
-#[cfg(test)]
-mod sessions;
 #[cfg(test)]
 mod short_entries;
 #[cfg(test)]

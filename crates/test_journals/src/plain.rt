@@ -1,14 +1,14 @@
-//! A cycle of two messages, each of which names the other as its dependency, and the waits of a
-//! message that is offered and sent, by a plain view.
+//! A cycle of two messages, each of which names the other as its dependency, and a plain view of a
+//! journal.
 use crate::checks::{made, same};
-use crate::fixtures::{commit, definition, list, message};
+use crate::fixtures::{commit, definition, message};
 use plain_rules::{PlainFault, PlainView, begin_session, hear_message};
 use std::alloc::{AllocError, Global};
 use std::process::Abort;
 use sync_ids::{Fixed, GroupDef, GroupId, Message, MessageId, group_id};
 use sync_rules::{
-    Batch, Clients, DepList, Entry, Fate, Judgement, Level, Mode, Out, Session, View, fate_in,
-    id_of, level_in, next_step_in,
+    Batch, Clients, DepList, Entry, Fate, Judgement, Level, Mode, Session, View, fate_in, id_of,
+    level_in, next_step_in,
 };
 
 /// A client of all groups whose messages depend on one another: each names the other of two ids.
@@ -120,76 +120,6 @@ fn shared_message(rt: &impl Abort, alloc: Global, def: GroupDef, message: Messag
     commit(rt, alloc, &mut j, Entry::Judged(id));
     commit(rt, alloc, &mut j, Entry::Deliver(id));
     j
-}
-
-/// The message is offered from this time on, and not before.
-fn check_offered_from<V: View>(
-    rt: &impl Abort,
-    alloc: Global,
-    view: &V,
-    id: &MessageId,
-    expiry: u64,
-) {
-    let before = made(rt, view.offers(alloc, 0, expiry.saturating_sub(1)));
-    let then = made(rt, view.offers(alloc, 0, expiry));
-    same(
-        rt,
-        &(expiry, before.len(), then.as_slice()),
-        &(expiry, 0, [*id].as_slice()),
-    );
-}
-
-/// Once the message was offered at this time, it is offered again from that time on, and not sent.
-fn check_offer(
-    rt: &impl Abort,
-    alloc: Global,
-    j: &mut Vec<Batch>,
-    clients: &Crossed,
-    now: u64,
-    expiry: u64,
-) {
-    let out = Out::Offers(list(rt, alloc, &[clients.first]));
-    commit(rt, alloc, j, Entry::Out(0, now, out));
-    let view = made(rt, PlainView::new(alloc, j.as_slice(), clients));
-    check_offered_from(rt, alloc, &view, &clients.first, expiry);
-    same(rt, &view.next_send(0, Mode::Interactive, u64::MAX), &None);
-}
-
-/// Once the message was asked for, it is sent at once, and not offered.
-fn check_asked(rt: &impl Abort, alloc: Global, j: &mut Vec<Batch>, clients: &Crossed) {
-    commit(rt, alloc, j, Entry::Asked(0, clients.first));
-    let view = made(rt, PlainView::new(alloc, j.as_slice(), clients));
-    let sent = view.next_send(0, Mode::Interactive, 0);
-    let offers = made(rt, view.offers(alloc, 0, 0));
-    same(rt, &(sent, offers.len()), &(Some(clients.first), 0));
-}
-
-/// Once the message was sent at 200,000, it is sent again from 260,000 on.
-fn check_sent(rt: &impl Abort, alloc: Global, j: &mut Vec<Batch>, clients: &Crossed) {
-    let out = Out::Send(clients.first);
-    commit(rt, alloc, j, Entry::Out(0, 200_000, out));
-    let view = made(rt, PlainView::new(alloc, j.as_slice(), clients));
-    let before = view.next_send(0, Mode::Batch, 259_999);
-    let then = view.next_send(0, Mode::Batch, 260_000);
-    same(rt, &(before, then), &(None, Some(clients.first)));
-}
-
-#[test]
-fn waits_twice_as_long(rt: HostRuntime) {
-    let alloc = rt.alloc();
-    let def = note(&rt, alloc);
-    let m = message(&rt, alloc, &group_id(&def), 7, b"m");
-    let id = id_of(&m);
-    let clients = Crossed {
-        first: id,
-        second: id,
-    };
-    let mut j = shared_message(&rt, alloc, def, m);
-    check_offer(&rt, alloc, &mut j, &clients, 1_000, 61_000);
-    check_offer(&rt, alloc, &mut j, &clients, 61_000, 181_000);
-    check_offer(&rt, alloc, &mut j, &clients, 181_000, 421_000);
-    check_asked(&rt, alloc, &mut j, &clients);
-    check_sent(&rt, alloc, &mut j, &clients);
 }
 
 /// The group of a held message.

@@ -24,15 +24,8 @@ pub(crate) fn kept<T, E: Debug + Drop>(rt: &impl Abort, made: Result<T, E>) -> T
 
 /// A disk with these bytes in file 0.
 pub(crate) fn disk_with<R: Abort + AllocGlobal>(rt: &R, bytes: &[u8]) -> MemDisk {
-    disk_of(rt, bytes, &[])
-}
-
-/// A disk with these two files.
-pub(crate) fn disk_of<R: Abort + AllocGlobal>(rt: &R, file0: &[u8], file1: &[u8]) -> MemDisk {
-    let alloc = rt.alloc();
-    let first = kept(rt, Vec::from_slice(alloc, file0));
-    let second = kept(rt, Vec::from_slice(alloc, file1));
-    kept(rt, MemDisk::new(alloc, first, second))
+    let first = kept(rt, Vec::from_slice(rt.alloc(), bytes));
+    kept(rt, MemDisk::new(rt.alloc(), first, Vec::new(rt.alloc())))
 }
 
 /// Link 0 answers so.

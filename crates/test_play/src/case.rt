@@ -1,7 +1,7 @@
 //! A case: the files as they stand, and what is to come of the next command.
 
 use crate::answer::{tell_answer, tell_bytes, tell_disk};
-use crate::command::{Came, command};
+use crate::command::{Came, command, words_of};
 use crate::compacting;
 use crate::crash::{Plan, crash, crash_twice};
 use crate::crossed::Crossed;
@@ -10,6 +10,7 @@ use crate::stage::Stage;
 use crate::stops::play_stops;
 use anyhow::{Context, Result};
 use client_sharing::SharingBundle;
+use commands::read_words;
 use outside::{LINKS, MemDisk};
 use std::alloc::{AllocError, Global};
 
@@ -79,6 +80,7 @@ impl Case {
             "mailbox" => self.carry(line),
             "stops" => self.stop(rest),
             "files" | "journal" | "add" | "count" => self.write_files(kind, rest),
+            "words" => self.tell_words(rest),
             "run" | "try" | "loaded" => self.tell_command(kind, rest),
             "crash" | "fails" | "twice" => self.tell_failing(kind, rest),
             _ => self.prepare(line),
@@ -131,6 +133,14 @@ impl Case {
         }
         self.forget();
         Ok(())
+    }
+
+    // What is read of words is told.
+    fn tell_words(&mut self, line: &str) -> Result<()> {
+        let words = words_of(self.alloc, line)?;
+        let command = read_words(self.alloc, words.as_slice()).ok();
+        let command = command.context("a wrong word")?;
+        Ok(writeln!(self.told, "> {line}\n{command:?}")?)
     }
 
     // A command is told of which each call of the disk fails in turn.

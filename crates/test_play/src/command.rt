@@ -133,8 +133,8 @@ fn obeyed<C: Clients>(
     }
 }
 
-// The words of a line; an empty line has none.
-fn words_of(alloc: Global, line: &str) -> Result<Vec<String>, AllocError> {
+/// The words of a line; an empty line has none.
+pub(crate) fn words_of(alloc: Global, line: &str) -> Result<Vec<String>, AllocError> {
     let mut words = Vec::new(alloc);
     if line.is_empty() {
         return Ok(words);

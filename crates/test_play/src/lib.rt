@@ -11,6 +11,7 @@
 //!   changed; where it made no call of the disk, that is said.
 //! - `try WORDS`: the same on a copy of the files, which stay as they are.
 //! - `loaded WORDS`: the same where the first call of the disk that a load does not make fails.
+//! - `words WORDS`: what is read of these words, with its parts.
 //! - `find`: what `show` and `audit` come to, and where there is no store each other command that
 //!   comes to something else.
 //! - `crash WORDS / NEXT`: each call of the disk of this command fails in turn, and then none. Each
