@@ -9,7 +9,7 @@ use outside::{Sink, write_text};
 use sync_top::{Outcome, Status, report};
 
 /// What help is about.
-#[derive(Clone, Copy, Debug, PartialEq, Eq)]
+#[derive(Clone, Copy)]
 pub enum Topic {
     /// What commands there are.
     Overview,
@@ -87,7 +87,7 @@ impl Topic {
 }
 
 /// What is asked of the program itself.
-#[derive(Clone, Copy, Debug, PartialEq, Eq)]
+#[derive(Clone, Copy)]
 pub enum Help {
     /// To be told of this.
     Tell(Topic),
