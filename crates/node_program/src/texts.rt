@@ -100,17 +100,17 @@ are below it and itself, and its id.
 /// What `audit` does.
 pub const AUDIT: &str = "bsp audit
 
-Reads both files once more, by a state of its own that is kept by the
-definitions; with the other commands it shares the reader of a batch and the
-test whether a batch may follow. It writes nothing. Prints `legal BATCHES
-ENTRIES GOOD BAD WORD`: how many batches and entries the store has, how many
-of its messages are good and how many bad by what their clients say of them,
-and `settled`, or `open` where something is still to be judged or delivered,
-which the next command that writes does. Where it is settled, the good
-messages are the delivered ones and the bad ones the invalid ones. Where the
-store is not legal, the status and the line are those that other commands end
-with. One runs it on a backup, after a crash, or before trusting a store that
-somebody handed over.
+Reads both files once more, by a reader of frames and a state of its own; with
+the other commands it shares the reader of a batch's entries and the test
+whether a batch may follow. It writes nothing. Prints `legal BATCHES ENTRIES
+GOOD BAD WORD`: how many batches and entries the store has, how many of its
+messages are good and how many bad by what their clients say of them, and
+`settled`, or `open` where something is still to be judged or delivered, which
+the next command that writes does. Where it is settled, the good messages are
+the delivered ones and the bad ones the invalid ones. Where the store is not
+legal, the status and the line are those that other commands end with. One
+runs it on a backup, after a crash, or before trusting a store that somebody
+handed over.
 ";
 
 /// What `say` does.
