@@ -13,7 +13,7 @@ import textwrap
 
 TOP = pathlib.Path(__file__).resolve().parent.parent
 PROGRAMS = {'bsp': 'node_program', 'bsp_replay': 'replay_program'}
-WIDTH = 78
+WIDTH, COLUMNS = 78, 100
 
 
 def page_of(program):
@@ -85,11 +85,14 @@ def constant(words):
 
 def source_of(program):
     """The file of constants of a program."""
-    out = [f'//! What `{program}` answers who asks for help: made from docs/{program}.1 by oracle/help_texts.py.', '']
+    out = [f'//! The texts of help of `{program}`, made from docs/{program}.1 by oracle/help_texts.py.', '']
     for words, text in texts_of(program).items():
         what = {'': 'What commands there are.', 'version': 'The version.'}.get(words, f'What `{words}` does.')
         escaped = text.replace('\\', '\\\\').replace('"', '\\"')
-        out += [f'/// {what}', f'pub const {constant(words)}: &str = "{escaped}";', '']
+        head, told = f'pub const {constant(words)}: &str =', f'"{escaped}";'
+        # (as rt fmt lays it out)
+        wide = len(f'{head} {told}'.split('\n')[0]) > COLUMNS
+        out += [f'/// {what}', f'{head}\n    {told}' if wide else f'{head} {told}', '']
     return '\n'.join(out[:-1]) + '\n'
 
 

@@ -1,5 +1,7 @@
--- What the words of a command line ask of the program itself, and what it answers. Words are counted from 0.
-use Rattle.std.specs.Prelude.{◌≡◌, ◌⊎◌, ℕ, Bool, true, false, if◌then◌else◌, List, [], ◌∷◌, codes, Option, Some, None}
+-- What the words of a command line ask of the program itself, and what it answers. Words are counted
+-- from 0.
+use Rattle.std.specs.Prelude.{◌≡◌, ◌⊎◌, ℕ, Bool, true, false, if◌then◌else◌, List, [], ◌∷◌}
+use Rattle.std.specs.Prelude.{codes, Option, Some, None}
 use Rattle.std.specs.Str.{bytes_eq}
 use Rattle.std.specs.Io.KnownBytes.{Appends}
 use Rattle.outside.specs.Faults.{CountRose}
@@ -12,9 +14,10 @@ use Rattle.node_program.specs.declared.help.Help.{Help}
 use Rattle.node_program.specs.declared.help.Help.TheVariants as help
 use Rattle.node_program.specs.declared.help.Topic.{Topic}
 use Rattle.node_program.specs.declared.help.Topic.TheVariants as topic
-use Rattle.node_program.specs.declared.texts.TheConstants.{OVERVIEW, VERSION, INIT, CONTACT, GROUP, SHARE, POST, SHOW, INBOX}
-use Rattle.node_program.specs.declared.texts.TheConstants.{BODY, TREE, AUDIT, SAY, AGREE, COMPACT, MAILBOX, MAILBOX_IN}
-use Rattle.node_program.specs.declared.texts.TheConstants.{MAILBOX_OUT, SYNC, RECORDS, TRY}
+use Rattle.node_program.specs.declared.texts.TheConstants.{OVERVIEW, VERSION, INIT, CONTACT, GROUP}
+use Rattle.node_program.specs.declared.texts.TheConstants.{SHARE, POST, SHOW, INBOX, BODY, TREE}
+use Rattle.node_program.specs.declared.texts.TheConstants.{AUDIT, SAY, AGREE, COMPACT, MAILBOX}
+use Rattle.node_program.specs.declared.texts.TheConstants.{MAILBOX_IN, MAILBOX_OUT, SYNC, RECORDS, TRY}
 
 -- what the program tells of a topic
 abbrev pub text_of : Topic → List ℕ
@@ -110,13 +113,17 @@ abbrev pub begins_nothing : List (List ℕ) → Bool
 begins_nothing [] = true
 begins_nothing (word ∷ words) = is_nothing (topic_in word)
 
--- The output got the whole text, and nothing was said; or a front of it, a call on the output failed, and the error output says so.
+-- The output got the whole text, and nothing was said; or a front of it, a call on the output
+-- failed, and the error output says so.
 abbrev pub TellsText : (text : List ℕ) (out out' err err' : Stream) → Status → Type 0
 TellsText text out out' err err' given =
     (Appends out.bytes out'.bytes text × IsIdle err err' × (given ≡ status.Done))
-    ⊎ (GetsFront out out' text × CountRose out.faults out'.faults × ReportsOutcome outcome.WriteFault err err' given)
+    ⊎ (GetsFront out out' text × CountRose out.faults out'.faults
+        × ReportsOutcome outcome.WriteFault err err' given)
 
 -- what was asked is told on the output; what is not there is a wrong word, on the error output alone
 abbrev pub AnswersHelp : Help → (out out' err err' : Stream) → Status → Type 0
-AnswersHelp (help.Tell asked) out out' err err' given = TellsText (text_of asked) out out' err err' given
-AnswersHelp (help.Wrong place) out out' err err' given = IsIdle out out' × ReportsOutcome (outcome.Usage place) err err' given
+AnswersHelp (help.Tell asked) out out' err err' given =
+    TellsText (text_of asked) out out' err err' given
+AnswersHelp (help.Wrong place) out out' err err' given =
+    IsIdle out out' × ReportsOutcome (outcome.Usage place) err err' given

@@ -1,4 +1,4 @@
-//! What `bsp` answers who asks for help: made from docs/bsp.1 by oracle/help_texts.py.
+//! The texts of help of `bsp`, made from docs/bsp.1 by oracle/help_texts.py.
 
 /// What commands there are.
 pub const OVERVIEW: &str = "bsp - keep groups of messages and exchange them with other nodes
@@ -159,7 +159,8 @@ again.
 ";
 
 /// What `sync` does.
-pub const SYNC: &str = "bsp sync TURNS QUIET CONTACT MODE LATENCY SPEC [CONTACT MODE LATENCY SPEC ...]
+pub const SYNC: &str =
+    "bsp sync TURNS QUIET CONTACT MODE LATENCY SPEC [CONTACT MODE LATENCY SPEC ...]
 
 Runs a session over each of one to eight links, in turns, until nothing was
 heard or sent for QUIET turns, or TURNS turns were made. MODE is `interactive`

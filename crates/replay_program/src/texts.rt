@@ -1,7 +1,8 @@
-//! What `bsp_replay` answers who asks for help: made from docs/bsp_replay.1 by oracle/help_texts.py.
+//! The texts of help of `bsp_replay`, made from docs/bsp_replay.1 by oracle/help_texts.py.
 
 /// What commands there are.
-pub const OVERVIEW: &str = "bsp_replay - play a script of several nodes that sync, crash and lose records
+pub const OVERVIEW: &str =
+    "bsp_replay - play a script of several nodes that sync, crash and lose records
 
   bsp_replay <SCRIPT
   bsp_replay gen SEED COUNT
