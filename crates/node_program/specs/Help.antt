@@ -1,5 +1,5 @@
--- What the words of a command line ask of the program itself, and what it answers. Words are counted
--- from 0.
+-- What the words of a command line ask of the program itself, and what it answers. Words are
+-- counted from 0.
 use Rattle.std.specs.Prelude.{◌≡◌, ◌⊎◌, ℕ, Bool, true, false, if◌then◌else◌, List, [], ◌∷◌}
 use Rattle.std.specs.Prelude.{codes, Option, Some, None}
 use Rattle.std.specs.Str.{bytes_eq}
@@ -17,7 +17,8 @@ use Rattle.node_program.specs.declared.help.Topic.TheVariants as topic
 use Rattle.node_program.specs.declared.texts.TheConstants.{OVERVIEW, VERSION, INIT, CONTACT, GROUP}
 use Rattle.node_program.specs.declared.texts.TheConstants.{SHARE, POST, SHOW, INBOX, BODY, TREE}
 use Rattle.node_program.specs.declared.texts.TheConstants.{AUDIT, SAY, AGREE, COMPACT, MAILBOX}
-use Rattle.node_program.specs.declared.texts.TheConstants.{MAILBOX_IN, MAILBOX_OUT, SYNC, RECORDS, TRY}
+use Rattle.node_program.specs.declared.texts.TheConstants.{MAILBOX_IN, MAILBOX_OUT, SYNC, RECORDS}
+use Rattle.node_program.specs.declared.texts.TheConstants.{TRY}
 
 -- what the program tells of a topic
 abbrev pub text_of : Topic → List ℕ
@@ -121,7 +122,8 @@ TellsText text out out' err err' given =
     ⊎ (GetsFront out out' text × CountRose out.faults out'.faults
         × ReportsOutcome outcome.WriteFault err err' given)
 
--- what was asked is told on the output; what is not there is a wrong word, on the error output alone
+-- what was asked is told on the output; what is not there is a wrong word, on the error output
+-- alone
 abbrev pub AnswersHelp : Help → (out out' err err' : Stream) → Status → Type 0
 AnswersHelp (help.Tell asked) out out' err err' given =
     TellsText (text_of asked) out out' err err' given

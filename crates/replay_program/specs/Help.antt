@@ -1,5 +1,5 @@
--- What the words of a command line ask of the program itself, and what it answers. Words are counted
--- from 0.
+-- What the words of a command line ask of the program itself, and what it answers. Words are
+-- counted from 0.
 use Rattle.std.specs.Prelude.{◌≡◌, ◌⊎◌, ℕ, Bool, true, false, not, if◌then◌else◌, List, []}
 use Rattle.std.specs.Prelude.{◌∷◌, codes, Option, Some, None}
 use Rattle.std.specs.Str.{bytes_eq}
@@ -67,7 +67,8 @@ TellsText text out out' err err' given =
     ⊎ (GetsFront out out' text × CountRose out.faults out'.faults
         × ReportsOutcome outcome.WriteFault err err' given)
 
--- what was asked is told on the output; what is not there is a wrong word, on the error output alone
+-- what was asked is told on the output; what is not there is a wrong word, on the error output
+-- alone
 abbrev pub AnswersHelp : Help → (out out' err err' : Stream) → Status → Type 0
 AnswersHelp (help.Tell asked) out out' err err' given =
     TellsText (text_of asked) out out' err err' given
