@@ -1,10 +1,10 @@
 #!/usr/bin/env bash
-# Measures all that README's table of speed says, each script of this folder after the other, each with its peers beside it, and
+# Measures all that the table of docs/SPEED.md says, each script of this folder after the other, each with its peers beside it, and
 # prints the table.
 #
 #     bench/speed.sh                    all of it, in one run: half an hour and more
 #     bench/speed.sh try store          these rows alone
-#     bench/speed.sh --write ..         the same, and the rows are written into README.md, with their run's date and machine
+#     bench/speed.sh --write ..         the same, and the rows are written into docs/SPEED.md, with their run's date and machine
 #     bench/speed.sh --list             the words of the rows
 #
 # A row is written as soon as its script ended well and told each figure. What the scripts print goes to the error output as it
@@ -91,7 +91,7 @@ ROWS = [
         '1: n log n. 1: the load. None. The same'),
     Row('tables', 'tables.sh', 'the table of what is due at 400,000 messages against 100,000, over n log n', '{tables:.2f}', '1: n log n'),
 ]
-PAGE, BEGIN, END = 'README.md', '<!-- the table is written by bench/speed.sh --write -->\n', '<!-- end of the table -->\n'
+PAGE, BEGIN, END = 'docs/SPEED.md', '<!-- the table is written by bench/speed.sh --write -->\n', '<!-- end of the table -->\n'
 HEAD = '| Row | What is compared | Figures | What they cannot pass | Run |\n|---|---|---|---|---|\n'
 
 

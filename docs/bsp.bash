@@ -1,7 +1,7 @@
 # Completion for bash: `source docs/bsp.bash`, or a copy in /etc/bash_completion.d.
 _bsp() {
     local word=${COMP_WORDS[COMP_CWORD]} place=$COMP_CWORD
-    local commands='init contact group share post show inbox body tree audit say agree compact mailbox sync records try'
+    local commands='init contact group share post show inbox body tree audit say agree compact mailbox sync records try help'
     COMPREPLY=()
     if [ "$place" -eq 1 ]; then
         COMPREPLY=($(compgen -W "$commands" -- "$word"))
@@ -14,6 +14,8 @@ _bsp() {
         share:3 | post:2 | tree:2 | say:2 | agree:3) COMPREPLY=($(compgen -W "$(bsp show 2>/dev/null | sed -n 's/^group \([0-9a-f]*\) .*/\1/p')" -- "$word")) ;;
         share:4) COMPREPLY=($(compgen -W 'invisible visible shared' -- "$word")) ;;
         body:2) COMPREPLY=($(compgen -W "$(bsp inbox 2>/dev/null | cut -d' ' -f1)" -- "$word")) ;;
+        help:2) COMPREPLY=($(compgen -W "${commands% help}" -- "$word")) ;;
+        help:3) [ "${COMP_WORDS[2]}" = mailbox ] && COMPREPLY=($(compgen -W 'in out' -- "$word")) ;;
         mailbox:2) COMPREPLY=($(compgen -W 'in out' -- "$word")) ;;
         sync:*)
             [ "$place" -lt 4 ] && return

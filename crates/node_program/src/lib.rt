@@ -1,8 +1,11 @@
 //! The program `bsp` over any runtime and any standard streams.
 #![tactic(auto)]
 
+mod help;
 mod need;
+mod texts;
 
+use crate::help::{answer, help_asked, is_lost};
 use crate::need::{early_input, need_of};
 use arguments::words;
 use client_sharing::SharingBundle;
@@ -19,9 +22,11 @@ use std::random::RandomSource;
 use std::rt::Runtime;
 use sync_top::{Outcome, Status, report, run};
 
-/// Does what the words of the command line ask for, in the folder that is current. No file may
-/// have been opened yet. The locks on the files of the store are let go of before the first write to
-/// the output or the error output. Behind `disk fault` a second line says why.
+// Where help is: a line behind the usage line of words that begin with no command.
+const HINT: &str = "bsp help lists the commands\n";
+
+/// Does what the words of the command line ask for, in the folder that is current, or answers what
+/// they ask of the program itself. No file may have been opened yet.
 pub fn run_program<R, I, O, E>(rt: R, input: I, out: O, err: E) -> ExitCode
 where
     R: Runtime + Files<File = File> + AllocGlobal + Net + RandomSource,
@@ -30,48 +35,73 @@ where
     E: Write + Drop,
 {
     let alloc = rt.alloc();
+    let mut out = StdSink::new(out);
     let mut err = StdSink::new(err);
     // No file was opened yet, so none has the number of a stream that is closed.
     let _numbers = match hold_standard_numbers(&rt) {
         Ok(numbers) => numbers,
         Err(e) => {
-            let status = ended(&Outcome::DiskFault, &mut err);
+            let status = report(&Outcome::DiskFault, &mut err);
             tell(Some(Cause::of(&e)), &mut err);
-            return status;
+            return status.exit_code();
         }
     };
     let Ok(words) = words(&rt, alloc) else {
-        return ended(&Outcome::Memory, &mut err);
+        return report(&Outcome::Memory, &mut err).exit_code();
     };
+    let status = match help_asked(words.as_slice()) {
+        Some(asked) => answer(asked, &mut out, &mut err),
+        None => match obey(rt, alloc, words.as_slice(), input, &mut out, &mut err) {
+            Ok(status) => status,
+            Err(AllocError) => report(&Outcome::Memory, &mut err),
+        },
+    };
+    status.exit_code()
+}
+
+// Does what the words ask for. The locks on the files of the store are let go of before the first
+// write to the output or the error output. Behind `disk fault` a second line says why, and behind a
+// usage line of words that begin with no command where help is.
+fn obey<R, I, O, E>(
+    rt: R,
+    alloc: Global,
+    words: &[String],
+    input: I,
+    out: &mut StdSink<O>,
+    err: &mut StdSink<E>,
+) -> Result<Status, AllocError>
+where
+    R: Runtime + Files<File = File> + AllocGlobal + Net + RandomSource,
+    I: Read + Drop,
+    O: Write + Drop,
+    E: Write + Drop,
+{
     let mut input = EarlySource::new(alloc, input);
-    let Ok(need) = prepare(alloc, words.as_slice(), &mut input) else {
-        return ended(&Outcome::Memory, &mut err);
-    };
+    let need = prepare(alloc, words, &mut input)?;
     // A system that gives no random bytes has none to give for the tables.
     let Ok(hasher) = RandomState::new(&rt) else {
-        return ended(&Outcome::Memory, &mut err);
+        return Err(AllocError);
     };
-    let mut out = StdSink::new(out);
-    let Ok(mut host) = FileHost::with(rt, ".", need) else {
-        return ended(&Outcome::Memory, &mut err);
-    };
-    if hand_lock(&host, &mut out, &mut err).is_err() {
-        return ended(&Outcome::Memory, &mut err);
-    }
+    let mut host = FileHost::with(rt, ".", need)?;
+    hand_lock(&host, out, err)?;
     let status = run(
         alloc,
         hasher,
-        words.as_slice(),
+        words,
         &mut host,
         &mut input,
-        &mut out,
-        &mut err,
+        out,
+        err,
         &SharingBundle::new(),
     );
-    if status == Status::DiskFault {
-        tell(host.cause(), &mut err);
+    match status {
+        Status::DiskFault => tell(host.cause(), err),
+        Status::Usage if is_lost(words) => {
+            let _ = write_text(err, HINT);
+        }
+        _ => {}
     }
-    status.exit_code()
+    Ok(status)
 }
 
 // Has both outputs let go of the locks on the files before they write.
@@ -107,8 +137,4 @@ fn prepare<I: Read + Drop>(
         Err(WordsFault::Usage(_)) => Ok(Need::Nothing),
         Err(WordsFault::Memory) => Err(AllocError),
     }
-}
-
-fn ended<S: Sink>(outcome: &Outcome, err: &mut S) -> ExitCode {
-    report(outcome, err).exit_code()
 }
