@@ -1,10 +1,10 @@
 //! Forests that look random.
 ghost use Rattle.std.specs.Prelude.{◌<◌, IfSome};
 
+use crate::dice::Dice;
 use crate::plain::{are_placed, is_part, sorted_paths};
 use reply_tree::{Replies, Tree};
 use std::alloc::{AllocError, Global};
-use test_drafts::Dice;
 
 // The most items of a forest, less one.
 const MOST: u64 = 23;

@@ -2,6 +2,7 @@
 //! its walk, and a chain, a star and a comb of 2,000 items.
 #![tactic(auto)]
 
+mod dice;
 mod forests;
 mod plain;
 mod shapes;

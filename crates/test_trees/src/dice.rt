@@ -4,11 +4,11 @@ ghost use Rattle.std.specs.Prelude.{◌≤◌};
 
 /// A generator of numbers by shifts (xorshift, 64 bits). A copy gives the same numbers again.
 #[derive(Clone, Copy)]
-pub struct Dice(u64);
+pub(crate) struct Dice(u64);
 
 impl Dice {
     /// The generator of this case.
-    pub fn new(case: u32) -> Dice {
+    pub(crate) fn new(case: u32) -> Dice {
         let start = u64::from(case).wrapping_mul(0x9e37_79b9_7f4a_7c15) ^ 0x2545_f491_4f6c_dd1d;
         Dice(start | 1)
     }
@@ -23,20 +23,14 @@ impl Dice {
     }
 
     /// A number below this one, or 0 where there is none.
-    pub fn below(&mut self, end: u64) -> u64
+    pub(crate) fn below(&mut self, end: u64) -> u64
         ensures { result ≤ end }
     {
         self.next().checked_rem(end).unwrap_or(0)
     }
 
     /// Whether one of so many throws comes out.
-    pub fn one_in(&mut self, throws: u64) -> bool {
+    pub(crate) fn one_in(&mut self, throws: u64) -> bool {
         self.below(throws) == 0
-    }
-
-    /// One of these.
-    pub fn pick<'a, T>(&mut self, from: &'a [T]) -> Option<&'a T> {
-        let place = self.below(from.len() as u64);
-        from.get(place as usize)
     }
 }
