@@ -1,9 +1,7 @@
 -- What calls did as acts, as events that are told: a path of acts is one of events, but for parts of
 -- what was owed, which are told of nothing.
 use Rattle.std.proofs.Common.{◌≡◌, ℕ, ◌*◌, ◌||◌, List, [], ◌∷◌, ◌++◌, length, refl, sym, ◌∙◌, ap, subst, inl, inr, Bool, Option, None, Some}
-use Rattle.std.specs.Bool.{if◌then◌else◌}
 use Rattle.std.specs.Option.{option_map}
-use Rattle.outside.specs.Faults.{one_more as one_more_fault}
 use Rattle.outside.specs.Disk.{RelatesTold}
 use Rattle.outside.specs.Links.{HeardOn, Planned}
 use Rattle.outside.specs.Outside.{MakesAtMost, Outside}
@@ -53,7 +51,7 @@ thins_same e es fs t = record {
       readings_of-append (e ∷ []) es ∙ ap (λ (l : List ℕ). readings_of (e ∷ []) ++ l) t.readings
       ∙ sym (readings_of-append (e ∷ []) fs);
   failures = λ link. ap (λ (b : Bool). is_failure link e || b) (t.failures link);
-  counts = λ link count. t.counts link (if is_failure link e then one_more_fault count else count);
+  counts = λ link count. t.counts link (failures_after link (e ∷ []) count);
   planned = λ a b through. (through.0, through.1, t.planned through.0 b through.2);
   upcoming = λ a b through. (through.0, through.1, t.upcoming through.0 b through.2);
 }

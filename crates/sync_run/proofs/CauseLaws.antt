@@ -1,6 +1,6 @@
 -- What calls one after another leave, and why links stand Failed.
-use Rattle.std.proofs.Common.{◌≡◌, ℕ, zero, suc, ◌≤◌, List, [], ◌∷◌, inl, inr, arith, refl, sym}
-use Rattle.std.proofs.Common.{length, ap, subst, ◌∙◌, Bool, Some, Result, Ok, Err}
+use Rattle.std.proofs.Common.{◌≡◌, ◌⊎◌, ℕ, zero, suc, ◌≤◌, List, [], ◌∷◌, inl, inr, arith, refl}
+use Rattle.std.proofs.Common.{sym, length, ap, subst, ◌∙◌, Bool, Some, Result, Ok, Err}
 use Rattle.std.specs.Prelude.{map, slice_get}
 use Rattle.outside.specs.Faults.{CountRose, one_more}
 use Rattle.outside.specs.Links.{Links}

@@ -89,6 +89,7 @@ returns-in-Failed-clause-work g c = record {
       c.in-Failed.ensures.links c.in-Failed.ensures.answer;
   stopped = tt;
   keeps =
-      work_link (link_failed (goes_heard _ _ _ _ _ c.recv.ensures.call c.recv.ensures.links) refl
-      c.in-Failed.ensures.answer) c.recv.ensures.call.same_files c.requires.able.able;
+      work_link (link_failed {number = c.args.number}
+      (goes_heard _ _ _ _ _ c.recv.ensures.call c.recv.ensures.links) refl
+      (omega (arith, c.in-Failed.ensures.answer))) c.recv.ensures.call.same_files c.requires.able.able;
 }
