@@ -208,3 +208,22 @@ gathers_answer n n' group group' o o' (Ok u) is empty becomes =
     subst (λ g. GathersFrames n n' group g [] o o') (sym empty)
     (gathers_flushed n n' group o o' is becomes)
 gathers_answer n n' group group' o o' (Err e) is empty becomes = tt
+
+-- how far the frames reach, written or not
+pub gathers_long : (n n' : JournalValue) (g g' : List ℕ) (added : List (List ℕ))
+    (o o' : Option (Two File)) → IsGroup g → GathersFrames n n' g g' added o o'
+    → n'.end + group_len g' ≡ n.end + group_len g + length (flat_map frame_of added)
+gathers_long n n' g g' added o o' waits gathers =
+    let all = gathers.each waits.payloads waits.joined in
+    let same : length (flat_map frame_of (all.written ++ all.rest))
+    ≡ length (flat_map frame_of (waits.payloads ++ added)) =
+    ap (λ (ps : List (List ℕ)). length (flat_map frame_of ps)) all.parts in
+    omega (
+      arith,
+      same,
+      all.writes.grows.end_is,
+      joined_long waits.payloads g waits.joined,
+      joined_long all.rest g' all.joined,
+      frames_long all.written all.rest,
+      frames_long waits.payloads added,
+    )
