@@ -21,7 +21,7 @@ use Rattle.frame_journal.proofs.BehindSteps.{behind_front, behind_rest}
 -- ---- lists
 
 -- the bytes of the frames and their header
-abbrev front_of : List ℕ → List (List ℕ) → List ℕ
+abbrev pub front_of : List ℕ → List (List ℕ) → List ℕ
 front_of header payloads = header ++ flat_map frame_of payloads
 
 front_long : (bytes header : List ℕ) (payloads : List (List ℕ)) (end : ℕ) → HasFrames bytes header payloads → end ≡ end_of payloads → length (front_of header payloads) + 1 ≡ end
@@ -35,7 +35,7 @@ end_within bytes header payloads end frames is_end =
     omega (arith, whole, length-append (front_of header payloads) (frames.gate ∷ frames.rest))
 
 -- the front up to the gate, and with the gate
-front_is : (bytes header : List ℕ) (payloads : List (List ℕ)) (end : ℕ) → HasFrames bytes header payloads → end ≡ end_of payloads → take (end - 1) bytes ≡ front_of header payloads
+pub front_is : (bytes header : List ℕ) (payloads : List (List ℕ)) (end : ℕ) → HasFrames bytes header payloads → end ≡ end_of payloads → take (end - 1) bytes ≡ front_of header payloads
 front_is bytes header payloads end frames is_end =
     let long : end - 1 ≡ length (front_of header payloads) = omega (arith, front_long bytes header payloads end frames is_end) in
     ap (λ n. take n bytes) long ∙ ap (take (length (front_of header payloads))) frames.whole ∙ take-append_seam (front_of header payloads) (frames.gate ∷ frames.rest)
@@ -62,7 +62,7 @@ frames_kept bytes left header payloads end frames is_end same = record {
 }
 
 -- a closed gate behind the same front has the same frames
-frames_gated : (bytes left header : List ℕ) (payloads : List (List ℕ)) (end gate : ℕ) (rest : List ℕ) → HasFrames bytes header payloads → end ≡ end_of payloads → gate ≢ 1
+pub frames_gated : (bytes left header : List ℕ) (payloads : List (List ℕ)) (end gate : ℕ) (rest : List ℕ) → HasFrames bytes header payloads → end ≡ end_of payloads → gate ≢ 1
     → left ≡ take (end - 1) bytes ++ gate ∷ rest → HasFrames left header payloads
 frames_gated bytes left header payloads end gate rest frames is_end shut is_left = record {
   gate = gate;

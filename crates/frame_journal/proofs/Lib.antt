@@ -2,6 +2,8 @@ pub mod Torn
 pub mod BehindSteps
 pub mod GateSteps
 pub mod AppendSteps
+pub mod GroupSteps
+pub mod Waiting
 pub mod Calm
 pub mod CreateSteps
 pub mod ClearSteps

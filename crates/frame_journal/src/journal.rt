@@ -1,6 +1,6 @@
 //! The journal's file: its frames are read in order, and then further ones are added.
 ghost use Rattle.std.specs.Prelude.{◌≡◌, ◌+◌, ◌<◌, ◌≤◌, true, max, Some, length, OnOk, OnErr, IfOk};
-ghost use Rattle.std.specs.Prelude.{IsErrOf, vec_len};
+ghost use Rattle.std.specs.Prelude.{IsErrOf, vec_len, [], ◌∷◌};
 ghost use Rattle.frame_journal.specs.Header.{StartsJournal};
 ghost use Rattle.frame_journal.specs.Next.{IsNextFrame, MovesReader, OnTrue, ReadsNext};
 ghost use Rattle.frame_journal.specs.Journal.{fresh_journal, is_format, rewound};
@@ -13,10 +13,13 @@ ghost use Rattle.outside.specs.Disk.{RelatesTold};
 ghost use Rattle.outside.specs.Frames.{IsAtRest};
 ghost use Rattle.outside.specs.Steps.{PassedMoments};
 ghost use Rattle.frame_journal.specs.Append.{IsFramed, AppendsFrame, BeforeOrWith};
+ghost use Rattle.frame_journal.specs.Group.{AppendsFrames, BeforeOrWithAll, IsGroup, flush_calls};
+ghost use Rattle.frame_journal.specs.Group.{flushed, group_len, moved_on};
 ghost use Rattle.frame_journal.specs.Create.{LeavesClosed};
 
 use crate::frame::next_at;
 use crate::gates::open_behind;
+use crate::group::Group;
 use crate::header::journal_of;
 use crate::{DiskFault, FrameFault, StartFault, is_format, read_header};
 use outside::{Disk, MAX_JOURNAL, Place};
@@ -192,6 +195,72 @@ impl Journal {
         open_behind(disk, self.file, self.end, framed)?;
         self.end += framed.len() as u64;
         self.len = self.len.max(self.end);
+        Ok(())
+    }
+
+    /// Adds several frames at once at the closed gate, in four calls of the disk whatever their
+    /// number. `group` is the frames, each with its gate open, and a closed gate behind them: all of
+    /// it but the first gate is written behind the journal's closed gate, and once that is on the
+    /// disk the gate is opened. At each moment the frames are those before or those with all of the
+    /// group; after `Ok` every crash leaves them.
+    pub fn append_group<D: Disk>(&mut self, disk: &mut D, group: &[u8]) -> Result<(), DiskFault>
+        requires group { IsGroup group.now }
+        requires some { 2 ≤ length group.now }
+        requires room { self.old.end + group_len group.now ≤ MAX_JOURNAL }
+        requires fits { ForSome (D.tells disk.old).files
+            (λ two. IsAtRest two self.old.file self.old.end) }
+        ensures ok { OnOk result (self.new ≡ moved_on self.old (group_len group.now)) }
+        ensures err { OnErr result (self.new ≡ self.old) }
+        ensures appended { OnOk result
+            (RelatesTold (AppendsFrames self.old.file self.old.end group.now)
+            (D.tells disk.old).files (D.tells disk.new).files) }
+        ensures any_moment { (two : Two File) → (D.tells disk.old).files ≡ Some two
+            → PassedMoments two (D.tells disk.old) (D.tells disk.new) self.old.file
+            (BeforeOrWithAll (file_of two self.old.file).now self.old.end group.now) }
+        ensures leaves { RelatesTold (LeavesClosed self.old.file) (D.tells disk.old).files
+            (D.tells disk.new).files }
+        ensures run { DiskRun (D.tells disk.old) (D.tells disk.new) }
+        ensures fault { HasCause (D.tells disk.old).disk_faults (D.tells disk.new).disk_faults
+            result }
+        ensures calls { MakesCalls 4 result (D.tells disk.old) (D.tells disk.new) }
+    {
+        let framed = &group[1..];
+        open_behind(disk, self.file, self.end, framed)?;
+        self.end += framed.len() as u64;
+        self.len = self.len.max(self.end);
+        Ok(())
+    }
+
+    /// Adds the frames that wait in a group, which is empty afterwards: as `append_group` does, or
+    /// with no call of the disk where none waits. After a failure the journal and the group are as
+    /// before.
+    pub fn flush<D: Disk>(&mut self, disk: &mut D, group: &mut Group) -> Result<(), DiskFault>
+        requires group { IsGroup group.old }
+        requires room { self.old.end + group_len group.old ≤ MAX_JOURNAL }
+        requires fits { ForSome (D.tells disk.old).files
+            (λ two. IsAtRest two self.old.file self.old.end) }
+        ensures ok { OnOk result (self.new ≡ flushed self.old group.old) }
+        ensures empty { OnOk result (group.new ≡ 0 ∷ []) }
+        ensures err { OnErr result ((self.new ≡ self.old) × (group.new ≡ group.old)) }
+        ensures appended { OnOk result
+            (RelatesTold (AppendsFrames self.old.file self.old.end group.old)
+            (D.tells disk.old).files (D.tells disk.new).files) }
+        ensures any_moment { (two : Two File) → (D.tells disk.old).files ≡ Some two
+            → PassedMoments two (D.tells disk.old) (D.tells disk.new) self.old.file
+            (BeforeOrWithAll (file_of two self.old.file).now self.old.end group.old) }
+        ensures leaves { RelatesTold (LeavesClosed self.old.file) (D.tells disk.old).files
+            (D.tells disk.new).files }
+        ensures run { DiskRun (D.tells disk.old) (D.tells disk.new) }
+        ensures fault { HasCause (D.tells disk.old).disk_faults (D.tells disk.new).disk_faults
+            result }
+        ensures calls { MakesCalls (flush_calls group.old) result (D.tells disk.old)
+            (D.tells disk.new) }
+    {
+        if group.is_empty() {
+            return Ok(());
+        }
+        self.append_group(disk, group.as_slice())?;
+        group.clear();
         Ok(())
     }
 

@@ -4,6 +4,8 @@
 mod fault;
 mod frame;
 mod gates;
+mod gathering;
+mod group;
 mod header;
 mod journal;
 
@@ -11,5 +13,6 @@ pub use fault::{DiskFault, FrameFault, StartFault};
 pub use gates::{
     barrier, clear, clear_back, create, cut_back, prepare, publish, shorten, shut_gate,
 };
+pub use group::{Group, MAX_GROUP};
 pub use header::{FIRST_FORMAT, Header, SECOND_FORMAT, is_format, read_header};
 pub use journal::Journal;

@@ -7,6 +7,7 @@ pub mod Copied
 pub mod Errors
 mod All
 pub mod Shut
+pub mod Gathers
 mod Begun
 pub mod Published
 mod Migrated

@@ -1,25 +1,22 @@
 -- A writer's file: all of an open header but the gate, which is closed, and some frames.
-use Rattle.std.proofs.Common.{◌≡◌, ℕ, ◌+◌, ◌-◌, ◌<◌, ◌≤◌, List, [], ◌∷◌, ◌++◌, length, Bool, Some}
+use Rattle.std.proofs.Common.{◌≡◌, ℕ, ◌+◌, ◌-◌, ◌<◌, ◌≤◌, List, [], ◌∷◌, ◌++◌, length, Bool, Option, Some}
 use Rattle.std.proofs.Common.{Ok, true, refl, sym, ap, subst, ◌∙◌, arith}
 use Rattle.std.specs.Option.{ForSome}
-use Rattle.outside.specs.declared.limits.TheConstants.{MAX_FRAME}
 use Rattle.outside.specs.Disk.{RelatesTold}
 use Rattle.outside.specs.Files.{Two, File, NothingPending, file_of, read_files, settled}
 use Rattle.outside.specs.Frames.{HasFrames, IsAtRest}
 use Rattle.outside.specs.Outside.{DiskRun, OnlyReads, Outside}
 use Rattle.outside.specs.Steps.{other_of}
 use Rattle.outside.proofs.CallSteps.{becomes_told, told_back}
-use Rattle.frame_journal.specs.Append.{AppendsFrame, IsFramed, payload_of}
+use Rattle.frame_journal.specs.Gathering.{Gathered, GathersFrames, WritesPayloads}
+use Rattle.frame_journal.specs.Group.{IsGroup}
 use Rattle.frame_journal.specs.Create.{IsPrepared, PreparesJournal, behind_gate}
 use Rattle.frame_journal.specs.Header.{StartsJournal}
 use Rattle.frame_journal.specs.Journal.{JournalValue, fresh_journal}
-use Rattle.frame_journal.specs.Next.{MovesReader, NextFrame}
-use Rattle.frame_journal.proofs.AppendSteps.{end_more}
-use Rattle.entry_codec.specs.declared.naming.Format.TheVariants as kind
-use Rattle.entry_codec.specs.Payloads.{spellings}
-use Rattle.journal_migration.specs.Copying.{IsPair, IsRespelled, IsShut, AreBothShut, header_mark}
+use Rattle.frame_journal.specs.Next.{MovesReader}
+use Rattle.frame_journal.proofs.Waiting.{frames_long}
+use Rattle.journal_migration.specs.Copying.{IsPair, IsShut, AreBothShut, header_mark}
 use Rattle.journal_migration.specs.Starting.{IsSettledBoth}
-use Rattle.frame_journal.proofs.Framed.{framed_as}
 use Rattle.journal_migration.proofs.Sides.{own_file, read_file, settled_first, settled_one}
 use Rattle.journal_migration.proofs.Sides.{settled_second}
 
@@ -58,12 +55,14 @@ prepared_so r n two works = record {
   frames = works.shut.frames;
 }
 
--- a frame more
-pub works_on : (r r' n n' : JournalValue) (framed : List ℕ) (two two' : Two File) → IsPair r n
-    → AreBothShut r n two → IsFramed framed → AppendsFrame n.file n.end framed two two'
-    → r'.file ≡ r.file → r'.len ≡ r.len → n'.file ≡ n.file → n'.end ≡ n.end + length framed
-    → AreBothShut r' n' two'
-works_on r r' n n' framed two two' pair works is appends reader len writer end =
+-- frames more
+works_on : (r r' n n' : JournalValue) (written : List (List ℕ)) (two two' : Two File) → IsPair r n
+    → AreBothShut r n two → WritesPayloads n n' written (Some two) (Some two')
+    → IsAtRest two' n'.file n'.end → r'.file ≡ r.file → r'.len ≡ r.len → AreBothShut r' n' two'
+works_on r r' n n' written two two' pair works writes rest reader len =
+    let appends = writes.adds in
+    let writer = writes.grows.file_is in
+    let header = works.shut.gate ∷ works.shut.behind in
     let other : other_of two' (1 - r.file) ≡ other_of two (1 - r.file) =
     subst (λ (t : ℕ). other_of two' t ≡ other_of two t) pair.writes appends.other in
     let same = own_still two two' r.file pair.reads other in
@@ -71,28 +70,29 @@ works_on r r' n n' framed two two' pair works is appends reader len writer end =
     pending_still two two' r.file same
     (settled_one two r.file pair.reads works.first_settled works.second_settled) in
     let there : NothingPending two' (1 - r.file) =
-    subst (NothingPending two') pair.writes appends.at_rest.settled in
-    let Rests : ℕ → ℕ → Type 0 = λ t e. IsAtRest two' t e in
+    subst (NothingPending two') (writer ∙ pair.writes) rest.settled in
     record {
       first_settled = settled_first two' r.file pair.reads own there;
       second_settled = settled_second two' r.file pair.reads own there;
       long = ap (λ (t : ℕ). length (file_of two' t).now) reader
           ∙ ap (λ (f : File). length f.now) same ∙ works.long ∙ sym len;
-      at_rest =
-          subst (λ (t : ℕ). Rests t n'.end) (sym writer)
-          (subst (Rests n.file) (sym end) appends.at_rest);
+      at_rest = rest;
       shut = record {
         gate = works.shut.gate;
         behind = works.shut.behind;
-        payloads = works.shut.payloads ++ payload_of framed ∷ [];
+        payloads = works.shut.payloads ++ written;
         closed = works.shut.closed;
         header = works.shut.header;
         frames =
-            subst (λ (t : ℕ). HasFrames (file_of two' t).now (works.shut.gate ∷ works.shut.behind)
-            (works.shut.payloads ++ payload_of framed ∷ [])) (sym writer)
-            (appends.frames (works.shut.gate ∷ works.shut.behind) works.shut.payloads
-            works.shut.frames works.shut.end_is);
-        end_is = end ∙ end_more works.shut.payloads n.end framed is works.shut.end_is;
+            subst (λ (t : ℕ). HasFrames (file_of two' t).now header
+            (works.shut.payloads ++ written)) (sym writer)
+            (appends.frames header works.shut.payloads works.shut.frames works.shut.end_is);
+        end_is = omega (
+          arith,
+          writes.grows.end_is,
+          works.shut.end_is,
+          frames_long works.shut.payloads written,
+        );
       };
     }
 
@@ -130,37 +130,29 @@ works_begun file generation r n two two' few reader len writer settled prepares 
           });
     }
 
--- the frame is the first that was read
-pub works_appended : (r r' n n' : JournalValue) (names : List (List ℕ)) (to framed : List ℕ)
-    (brought : ℕ) (o o1 o2 : Outside) → IsPair r n → ForSome o.files (AreBothShut r n)
-    → OnlyReads o o1 → DiskRun o1 o2
-    → RelatesTold (AppendsFrame n.file n.end framed) o1.files o2.files
-    → ((two : Two File) → o.files ≡ Some two → NextFrame (file_of two r.file).now r r' to)
-    → r'.end ≤ r.end + 5 + MAX_FRAME
-    → IsRespelled names to framed brought → n'.file ≡ n.file → n'.end ≡ n.end + length framed
+-- frames were gathered behind reads
+pub works_gathered : (r r' n n' : JournalValue) (g g' : List ℕ) (added : List (List ℕ))
+    (o o1 o2 : Outside) → IsPair r n → IsGroup g → ForSome o.files (AreBothShut r n)
+    → OnlyReads o o1 → DiskRun o1 o2 → GathersFrames n n' g g' added o1.files o2.files
+    → ForSome o2.files (λ x. IsAtRest x n'.file n'.end) → r'.file ≡ r.file → r'.len ≡ r.len
     → ForSome o2.files (AreBothShut r' n')
-works_appended r r' n n' names to framed brought o o1 o2 pair works looks run becomes next size
-    respelled writer end x told =
+works_gathered r r' n n' g g' added o o1 o2 pair waits works looks run gathers rests reader len x
+    told =
     let mid = told_back o1 o2 x run.same_told told in
     let before : o.files ≡ Some mid.0 = sym looks.same_files ∙ mid.1 in
-    let new = becomes_told (AppendsFrame n.file n.end framed) o1.files o2.files mid.0 mid.1
-    becomes in
-    let both : Some new.0 ≡ Some x = sym new.1 ∙ told in
-    let one : new.0 ≡ x = cc in
-    let moved = (next mid.0 before).moved in
-    let far : r'.end ≡ r.end + 5 + length to = ap (λ (v : JournalValue). v.end) moved in
-    let is = framed_as (spellings kind.Short names respelled.batch) framed respelled.framed_is
-    (respelled.some, omega (arith, respelled.no_longer, size, far)) in
-    subst (AreBothShut r' n') one
-    (works_on r r' n n' framed mid.0 new.0 pair (works mid.0 before) is new.2
-    (ap (λ (v : JournalValue). v.file) moved) (ap (λ (v : JournalValue). v.len) moved) writer
-    end)
+    let all = waits.payloads ++ added in
+    let at : Gathered n n' g' all (Some mid.0) (Some x) =
+    subst (λ (y : Option (Two File)). Gathered n n' g' all (Some mid.0) y) told
+    (subst (λ (y : Option (Two File)). Gathered n n' g' all y o2.files) mid.1
+    (gathers.each waits.payloads waits.joined)) in
+    works_on r r' n n' at.written mid.0 x pair (works mid.0 before) at.writes (rests x told) reader
+    len
 
--- how far the reader came
+-- the reader's file and its length are as before
 pub moves_true : (r r' : JournalValue) (more : Bool) → more ≡ true → MovesReader r r' (Ok more)
-    → r'.end ≤ r.end + 5 + MAX_FRAME
+    → (r'.file ≡ r.file) × (r'.len ≡ r.len)
 moves_true r r' more is moves = let P : Bool → Type 0 =
-    λ b. MovesReader r r' (Ok b) in let all : P true = subst P is moves in all.4
+    λ b. MovesReader r r' (Ok b) in let all : P true = subst P is moves in (all.0, all.1)
 
 -- a reader that starts and a writer in a prepared file
 pub works_ready : (file generation : ℕ) (r n : JournalValue) (o0 o1 o2 : Outside) → file < 2

@@ -8,6 +8,7 @@ use Rattle.outside.specs.Files.{Two, File, NothingPending, file_of, read_files}
 use Rattle.outside.specs.Frames.{HasFrames, IsAtRest, closed, end_of, frame_at, is_open}
 use Rattle.outside.specs.Outside.{Outside}
 use Rattle.frame_journal.specs.Append.{framed_of}
+use Rattle.frame_journal.specs.Group.{IsGroup, IsJoined, group_len}
 use Rattle.frame_journal.specs.Journal.{JournalValue}
 use Rattle.sync_rules.specs.declared.entries.Entry.{Entry}
 use Rattle.sync_rules.specs.declared.entries.Entry.TheVariants as entry
@@ -115,29 +116,62 @@ pub record CopiesBatches (clients : Meaning) (f : Facts) (generation : ℕ) (j :
   pub end_is : n.end ≡ journal_end kind.Short done
   pub counted : count ≡ length (facts done).held
 
+-- ---- frames that wait
+
+-- some frames wait in a group, and with them the writer has not come as far as the reader
+pub record IsGathering (r n : JournalValue) (group : List ℕ) : Type 0 where
+  pub waits : IsGroup group
+  pub behind : n.end + group_len group ≤ r.end
+
+-- The same, where the writer's file has but the first of these frames, and those with these payloads
+-- are still to be written.
+pub record OwesFrames (clients : Meaning) (f : Facts) (generation : ℕ) (j : List (List Entry))
+    (r n : JournalValue) (waiting : List (List ℕ)) (count : ℕ) (two : Two File) : Type 0 where
+  pub holds : HoldsFirst clients r.file generation j two
+  pub facts_are : facts j ≡ f
+  pub done : List (List Entry)
+  pub front : Front clients (read_files two) r.file kind.Whole done r.end
+  pub left : List (List Entry)
+  pub goes_on : j ≡ done ++ left
+  pub gate : ℕ
+  pub closed : gate ≢ 1
+  pub kept : List (List ℕ)
+  pub parts : kept ++ waiting ≡ payloads kind.Short nothing done
+  pub frames : HasFrames (file_of two n.file).now (gate ∷ header_mark (generation + 1)) kept
+  pub end_is : n.end ≡ end_of kept
+  pub counted : count ≡ length (facts done).held
+
+-- and these wait in a group
+pub record GathersBatches (clients : Meaning) (f : Facts) (generation : ℕ) (j : List (List Entry))
+    (r n : JournalValue) (group : List ℕ) (count : ℕ) (two : Two File) : Type 0 where
+  pub waiting : List (List ℕ)
+  pub joined : IsJoined waiting group
+  pub owes : OwesFrames clients f generation j r n waiting count two
+
 -- the reader is at the closed gate behind all frames
 abbrev pub IsAtLastGate : JournalValue → Two File → Type 0
 IsAtLastGate r two = frame_at (file_of (read_files two) r.file) (r.end - 1) ≡ closed
 
 -- ---- a frame copied
 
-abbrev pub CopiesSo : Meaning → Facts → (generation : ℕ) → List (List Entry) → (file : ℕ)
-    → (r n : JournalValue) → (count : ℕ) → Result (Option ℕ) MigrationFault → Two File → Type 0
-CopiesSo clients f generation j file r n count (Ok (Some brought)) two =
-    CopiesBatches clients f generation j r n (counted_to (count + brought)) two
-CopiesSo clients f generation j file r n count (Ok None) two =
-    CopiesBatches clients f generation j r n count two × IsAtLastGate r two
-CopiesSo clients f generation j file r n count (Err fault.Memory) two =
+abbrev pub GathersSo : Meaning → Facts → (generation : ℕ) → List (List Entry) → (file : ℕ)
+    → (r n : JournalValue) → (group : List ℕ) → (count : ℕ) → Result (Option ℕ) MigrationFault
+    → Two File → Type 0
+GathersSo clients f generation j file r n group count (Ok (Some brought)) two =
+    GathersBatches clients f generation j r n group (counted_to (count + brought)) two
+GathersSo clients f generation j file r n group count (Ok None) two =
+    GathersBatches clients f generation j r n group count two × IsAtLastGate r two
+GathersSo clients f generation j file r n group count (Err fault.Memory) two =
     HoldsFirst clients file generation j two
-CopiesSo clients f generation j file r n count (Err fault.DiskFault) two = Unit {0}
+GathersSo clients f generation j file r n group count (Err fault.DiskFault) two = Unit {0}
 
--- at each moment the files stand for the journal, and at the end a frame more is copied, or there
--- is none
-abbrev pub CopiesNext : Meaning → Facts → (generation : ℕ) → List (List Entry) → (file : ℕ)
-    → (r n : JournalValue) → (count : ℕ) → (old new : Outside) → Result (Option ℕ) MigrationFault
-    → Type 0
-CopiesNext clients f generation j file r n count old new result =
-    KeepsJournal clients j (CopiesSo clients f generation j file r n count result) old new
+-- at each moment the files stand for the journal, and at the end a frame more is copied or waits, or
+-- there is none
+abbrev pub GathersNext : Meaning → Facts → (generation : ℕ) → List (List Entry) → (file : ℕ)
+    → (r n : JournalValue) → (group : List ℕ) → (count : ℕ) → (old new : Outside)
+    → Result (Option ℕ) MigrationFault → Type 0
+GathersNext clients f generation j file r n group count old new result =
+    KeepsJournal clients j (GathersSo clients f generation j file r n group count result) old new
 
 -- ---- all frames
 
@@ -148,6 +182,29 @@ pub record CopiesWhole (clients : Meaning) (generation : ℕ) (j : List (List En
   pub count : ℕ
   pub copies : CopiesBatches clients f generation j r n count two
   pub at_end : IsAtLastGate r two
+
+-- the same, where frames of it still wait
+pub record GathersWhole (clients : Meaning) (generation : ℕ) (j : List (List Entry))
+    (r n : JournalValue) (group : List ℕ) (two : Two File) : Type 0 where
+  pub f : Facts
+  pub count : ℕ
+  pub gathers : GathersBatches clients f generation j r n group count two
+  pub at_end : IsAtLastGate r two
+
+abbrev pub GathersAllSo : Meaning → (generation : ℕ) → List (List Entry) → (file : ℕ)
+    → (r n : JournalValue) → (group : List ℕ) → Result (Unit {0}) MigrationFault → Two File
+    → Type 0
+GathersAllSo clients generation j file r n group (Ok u) two =
+    GathersWhole clients generation j r n group two
+GathersAllSo clients generation j file r n group (Err fault.Memory) two =
+    HoldsFirst clients file generation j two
+GathersAllSo clients generation j file r n group (Err fault.DiskFault) two = Unit {0}
+
+abbrev pub GathersAll : Meaning → (generation : ℕ) → List (List Entry) → (file : ℕ)
+    → (r n : JournalValue) → (group : List ℕ) → (old new : Outside)
+    → Result (Unit {0}) MigrationFault → Type 0
+GathersAll clients generation j file r n group old new result =
+    KeepsJournal clients j (GathersAllSo clients generation j file r n group result) old new
 
 abbrev pub CopiesAllSo : Meaning → (generation : ℕ) → List (List Entry) → (file : ℕ)
     → (r n : JournalValue) → Result (Unit {0}) MigrationFault → Two File → Type 0

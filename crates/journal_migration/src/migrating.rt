@@ -19,7 +19,8 @@ use crate::MigrationFault;
 use crate::copying::copy_whole;
 use crate::laws::cite_laws;
 use frame_journal::{
-    DiskFault, Journal, SECOND_FORMAT, clear_back, cut_back, prepare, publish, shorten, shut_gate,
+    DiskFault, Group, Journal, SECOND_FORMAT, clear_back, cut_back, prepare, publish, shorten,
+    shut_gate,
 };
 use journal_state::State;
 use outside::Disk;
@@ -27,13 +28,14 @@ use std::alloc::Global;
 
 /// Writes the journal in this file, which has format 1 and this generation and ends there, into the
 /// other file in format 2, with the next generation, and makes it the journal: the other file is
-/// cleared and prepared, every batch is appended to it, and then its header's gate is opened. The
-/// state is that of the journal. It answers the new journal.
+/// cleared and prepared, every batch is appended to it, in groups of `MAX_GROUP` bytes at most, and
+/// then its header's gate is opened. The state is that of the journal. It answers the new journal.
 ///
 /// At each moment the files stand for the same journal, and after `Memory` they still hold it as
 /// before. The journal's own file is only read. Where the second reading of the file gives a frame
 /// that is damaged, a payload that is no batch, a message that is not held, or another end, nothing
-/// is published, and the answer is `Memory` too. It takes the memory of one frame.
+/// is published, and the answer is `Memory` too. It takes the memory of one group, before it changes
+/// anything, and of one frame.
 ///
 /// Once the other file's gate is closed, and before it is opened, what was written of that file is
 /// taken back after a failure (`take_back`): after `Memory` it is as it was, or one byte long.
@@ -65,8 +67,17 @@ pub fn migrate<D: Disk>(
     if reader.file() != file || reader.generation() != generation {
         return Err(MigrationFault::Memory);
     }
+    let mut group = Group::new(alloc)?;
     let mut writer = begin(disk, 1 - file, generation + 1)?;
-    copy_whole(alloc, disk, state, end, &mut reader, &mut writer)?;
+    copy_whole(
+        alloc,
+        disk,
+        state,
+        end,
+        &mut reader,
+        &mut writer,
+        &mut group,
+    )?;
     publish(disk, writer.file())?;
     Ok(writer)
 }

@@ -28,6 +28,13 @@ returns-in_err-reader-clause-migrates g c clients j two told same holds =
     (g.D.Disk.tells c.start.new.disk) two told c.requires.file holds c.start.ensures.looks e
     c.from_residual.result (err_is c.from_residual.result e c.from_residual.ensures.1)
 
+pub returns-in_err-group-clause-migrates : goal.returns-in_err-group-clause-migrates
+returns-in_err-group-clause-migrates g c clients j two told same holds =
+    let result = c.from_residual-in_err-group.result in
+    looked_so clients c.args.file c.args.generation j (g.D.Disk.tells c.args.disk.now)
+    (g.D.Disk.tells c.start.new.disk) two told c.requires.file holds c.start.ensures.looks
+    fault.Memory result (err_is result fault.Memory c.from_residual-in_err-group.ensures.1)
+
 pub returns-in_err-writer-clause-migrates : goal.returns-in_err-writer-clause-migrates
 returns-in_err-writer-clause-migrates g c clients j two told same holds =
     let o0 = g.D.Disk.tells c.args.disk.now in
@@ -150,6 +157,15 @@ returns-then-file-clause-own g c =
     own_looks c.args.file (g.D.Disk.tells c.args.disk.now) (g.D.Disk.tells c.start.new.disk)
     c.start.ensures.looks
 
+pub returns-in_err-group-clause-own : goal.returns-in_err-group-clause-own
+returns-in_err-group-clause-own g c =
+    let o = g.D.Disk.tells c.args.disk.now in
+    let o' = g.D.Disk.tells c.start.new.disk in
+    let result = c.from_residual-in_err-group.result in
+    own_fault c.args.file o.files o'.files fault.Memory result
+    (err_is result fault.Memory c.from_residual-in_err-group.ensures.1)
+    (own_looks c.args.file o o' c.start.ensures.looks)
+
 pub returns-in_err-writer-clause-own : goal.returns-in_err-writer-clause-own
 returns-in_err-writer-clause-own g c =
     own_cut c.args.file (g.D.Disk.tells c.args.disk.now).files
@@ -216,6 +232,14 @@ returns-then-file-clause-back g c =
     back_unmade {A = JournalValue} (1 - c.args.file) fault.Memory (Err fault.Memory)
     (g.D.Disk.tells c.args.disk.now).files
     (g.D.Disk.tells c.start.new.disk).files refl c.start.ensures.looks.same_files
+
+pub returns-in_err-group-clause-back : goal.returns-in_err-group-clause-back
+returns-in_err-group-clause-back g c =
+    let result = c.from_residual-in_err-group.result in
+    back_unmade (1 - c.args.file) fault.Memory result (g.D.Disk.tells c.args.disk.now).files
+    (g.D.Disk.tells c.start.new.disk).files
+    (err_is result fault.Memory c.from_residual-in_err-group.ensures.1)
+    c.start.ensures.looks.same_files
 
 pub returns-in_err-writer-clause-back : goal.returns-in_err-writer-clause-back
 returns-in_err-writer-clause-back g c =

@@ -6,21 +6,23 @@ use Rattle.outside.specs.Outside.{DiskRun}
 use Rattle.frame_journal.specs.Create.{LeavesClosed}
 use Rattle.sync_rules.specs.declared.entries.Entry.{Entry}
 use Rattle.sync_rules.specs.Clients.{Meaning}
-use Rattle.journal_migration.specs.Copying.{CopiesBatches, IsPair, IsSamePair, AreBothShut}
+use Rattle.journal_migration.specs.Copying.{AreBothShut, GathersBatches, IsGathering, IsPair}
+use Rattle.journal_migration.specs.Copying.{IsSamePair}
 use Rattle.journal_migration.specs.Migrating.{KeepsJournal}
-use Rattle.journal_migration.proofs.copying.copy_all.Given as goal
+use Rattle.journal_migration.proofs.copying.gather_all.Given as goal
 
--- the frames so far are copied
+-- the frames so far are copied, or wait
 abbrev pub invariant-frames : goal.invariant-frames
 invariant-frames g l = record {
   pair : IsPair l.reader l.writer;
+  waits : IsGathering l.reader l.writer l.group;
   works : ForSome (g.D.Disk.tells l.disk).files (AreBothShut l.reader l.writer);
   same : IsSamePair l.fn.reader l.reader l.fn.writer l.writer;
   copies : (clients : Meaning) (generation : ℕ) (j : List (List Entry)) (two : Two File)
       → (g.D.Disk.tells l.fn.disk).files ≡ Some two
-      → CopiesBatches clients l.state.facts generation j l.fn.reader l.fn.writer 0 two
+      → GathersBatches clients l.state.facts generation j l.fn.reader l.fn.writer l.fn.group 0 two
       → KeepsJournal clients j
-      (CopiesBatches clients l.state.facts generation j l.reader l.writer l.count)
+      (GathersBatches clients l.state.facts generation j l.reader l.writer l.group l.count)
       (g.D.Disk.tells l.fn.disk) (g.D.Disk.tells l.disk);
   leaves : RelatesTold (LeavesClosed l.fn.writer.file) (g.D.Disk.tells l.fn.disk).files
       (g.D.Disk.tells l.disk).files;
