@@ -1,0 +1,6 @@
+mod Numbers
+mod Heads
+mod Streams
+mod Stages
+mod Spelled
+mod Hearing

@@ -1,0 +1,4 @@
+pub mod Heads
+pub mod Requests
+pub mod Reading
+pub mod Laws
