@@ -32,7 +32,7 @@ import sys
 
 from audits import Audited, rows as audit_rows
 from digests import message_id
-from journal import SHORT, WHOLE, frames, respelled
+from journal import SHORT, WHOLE, frames, groups_of, respelled
 from migration import migrated
 from old_stores import NOTES, SCENES as OLD_SCENES, THREADS, adds_contact, bare, heard, held, looks_at, show_text
 from run_model import BATCH, Store, VISIBLE, calls_of_clear, message_record
@@ -489,14 +489,14 @@ def play_migrated(text):
 
 def left_at_each_call(second, new, frames, is_copied):
     """What the other file reads as behind each call of a journal's being written anew that fails, in order: a migration, in which the
-    old frames are read and copied, or a compaction. Once its closed gate is on the disk, and before the write that opens it, the file is
-    cut to its first byte."""
+    old frames are read and copied, or a compaction. Its frames are added in groups. Once its closed gate is on the disk, and before the
+    write that opens it, the file is cut to its first byte."""
     shut = CLOSED + second[1:]
     before = [second] * (3 if is_copied else 0)
     gate = [second] + ([second, shut] if second[:1] in (b'', OPEN) else [])
     clear = gate + [CLOSED] * (calls_of_clear(second) - len(gate))
-    frame = [CLOSED] * (6 if is_copied else APPEND)
-    return before + clear + [CLOSED] * 2 + frame * frames + [CLOSED] * is_copied + [CLOSED + new[1:], new]
+    reads = [CLOSED] * (2 * frames + 1) if is_copied else []
+    return before + clear + [CLOSED] * 2 + reads + [CLOSED] * APPEND * groups_of(new) + [CLOSED + new[1:], new]
 
 
 def play_taken_back(text):

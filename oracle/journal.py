@@ -29,6 +29,21 @@ def frames(content):
         at += 5 + size
 
 
+# how many bytes the frames that are added at once take at most
+GROUP = 1 << 20
+
+
+def groups_of(content):
+    """In how many groups the frames of a file come where it is written anew: as many as fit are added at once."""
+    groups, room = 0, 0
+    for at, payload in frames(content):
+        size = 5 + len(payload)
+        if size > room:
+            groups, room = groups + 1, GROUP
+        room -= size
+    return groups
+
+
 def journal_of(content):
     """The front of a file that has its journal, without the closed gate."""
     end = HEADER

@@ -11,7 +11,7 @@ import hashlib
 import sys
 
 from digests import group_id, message_id
-from journal import SHORT, WHOLE, entries, entry_of, format_of, frames, is_spelled, number, respelled
+from journal import SHORT, WHOLE, entries, entry_of, format_of, frames, groups_of, is_spelled, number, respelled
 from store_file import CLOSED, HEADER, OPEN, framed, header
 
 MAX64 = 2**64 - 1
@@ -530,12 +530,13 @@ class Store:
         read = frames_of(twin)
         calls = 6 + 2 * read
         if twin.anew:
-            calls += 4 + 2 * read + calls_of_clear(twin.files[1 - twin.at]) + 4 + 4 * read
+            calls += 4 + 2 * read + calls_of_clear(twin.files[1 - twin.at]) + 4
             twin.migrate()
+            calls += 4 * groups_of(twin.files[twin.at])
         twin.settle()
         calls += 4 * (frames_of(twin) - read) + calls_of_clear(twin.files[1 - twin.at])
         twin.compact()
-        return calls + 4 + 4 * frames_of(twin)
+        return calls + 4 + 4 * groups_of(twin.files[twin.at])
 
     def spelled(self, batch):
         return b''.join(entry_bytes(e, self.journal.name) for e in batch)
