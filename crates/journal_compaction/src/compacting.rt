@@ -25,9 +25,9 @@ use std::alloc::Global;
 use sync_rules::Clients;
 
 /// Writes the brief account of a journal into the other file, with the next generation, and makes
-/// it the journal: the other file is cleared and prepared, every batch is appended to it, in groups,
-/// and then its header's gate is opened. The journal is settled and in format 2, and the state is that of it.
-/// It answers the new journal.
+/// it the journal: the other file is cleared and prepared, every batch is appended to it, in
+/// groups, and then its header's gate is opened. The journal is settled and in format 2, and the
+/// state is that of it. It answers the new journal.
 ///
 /// At each moment the files stand for the journal or for its brief account; after `Full` and
 /// `Memory` they still hold the journal as before. `Full` comes exactly where the brief account,

@@ -27,8 +27,8 @@ use outside::{Disk, MAX_JOURNAL};
 use sync_rules::{MAX_ROWS, MAX_STEPS};
 
 /// Puts an item's entry into the payload that is being filled, which takes so many more, or into a
-/// new one that takes so many at most; the former is then put behind the frames that wait. Answers how many more the
-/// payload takes now.
+/// new one that takes so many at most; the former is then put behind the frames that wait. Answers
+/// how many more the payload takes now.
 fn write_item<D: Disk>(
     disk: &mut D,
     state: &State,

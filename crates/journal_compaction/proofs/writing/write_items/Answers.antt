@@ -11,7 +11,8 @@ use Rattle.journal_compaction.specs.Paging.{closed_page, pages}
 use Rattle.frame_journal.specs.Gathering.{GathersFrames}
 use Rattle.journal_compaction.specs.Writing.{Written}
 use Rattle.journal_migration.proofs.Back.{leaves_on}
-use Rattle.journal_compaction.proofs.Pages.{all_more, written_all, written_more, written_none}
+use Rattle.journal_compaction.proofs.Pages.{all_more, last_room, more_room, written_all}
+use Rattle.journal_compaction.proofs.Pages.{written_more, written_none}
 use Rattle.journal_compaction.proofs.Working.{idle_works, shut_none, shut_then, written_of}
 use Rattle.journal_compaction.proofs.writing.write_items.Goals as goal
 
@@ -32,6 +33,32 @@ items-init g c =
       leaves = leaves_none c.args.writer.now.file o.files;
       run = run_none o;
     }
+
+pub write_item-requires-clause-room : goal.write_item-requires-clause-room
+write_item-requires-clause-room g c =
+    let f = c.args.state.now.facts in
+    let most = c.args.most in
+    let items = c.args.items.now in
+    let n = c.items.item-index in
+    let i : Item = get_or items n item.Brief in
+    let rest = drop (n + 1) items in
+    let page = c.items.page.payload.items in
+    let n0 = c.args.writer.now in
+    let n1 = c.items.writer in
+    let g0 = c.args.page.now.group in
+    let g1 = c.items.page.group in
+    let o0 = (g.D.Disk.tells c.args.disk.now).files in
+    let o1 = (g.D.Disk.tells c.items.disk).files in
+    let so_far : Written f most items (i ∷ rest) c.items.left page n0 n1 g0 g1 o0 o1 =
+    subst (λ (l : List Item). Written f most items l c.items.left page n0 n1 g0 g1 o0 o1)
+    (drop_more items n item.Brief c.items-test.true) c.items.invariant.written in
+    more_room f most items rest i c.items.left page n0 n1 g0 g1 o0 o1 so_far c.requires.waits
+    c.requires.room
+
+pub returns-in_err-left-clause-run : goal.returns-in_err-left-clause-run
+returns-in_err-left-clause-run g c =
+    run_then (g.D.Disk.tells c.args.disk.now) (g.D.Disk.tells c.items.disk)
+    (g.D.Disk.tells c.write_item.new.disk) c.items.invariant.run c.write_item.ensures.run
 
 pub items-preserved : goal.items-preserved
 items-preserved g c =
@@ -79,6 +106,21 @@ items-preserved g c =
           c.write_item.ensures.leaves;
       run = run_then o0 o1 o2 c.items.invariant.run c.in_ok-left.ensures.run;
     }
+
+pub flush-requires-clause-room : goal.flush-requires-clause-room
+flush-requires-clause-room g c =
+    let items = c.args.items.now in
+    last_room c.args.state.now.facts c.args.most items (drop c.items.item-index items)
+    c.items.left c.items.page.payload.items c.args.writer.now c.items.writer
+    c.args.page.now.group c.items.page.group (g.D.Disk.tells c.args.disk.now).files
+    (g.D.Disk.tells c.items.disk).files
+    (drop_all c.items.item-index items c.items-test.false) c.items.invariant.written
+    c.requires.waits c.requires.room
+
+pub returns-clause-run : goal.returns-clause-run
+returns-clause-run g c =
+    run_then (g.D.Disk.tells c.args.disk.now) (g.D.Disk.tells c.items.disk)
+    (g.D.Disk.tells c.flush.new.disk) c.items.invariant.run c.flush.ensures.run
 
 pub returns-clause-adding : goal.returns-clause-adding
 returns-clause-adding g c =

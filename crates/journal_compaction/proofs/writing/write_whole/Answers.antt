@@ -1,13 +1,34 @@
-use Rattle.std.proofs.Common.{[], ◌∷◌, sym, subst}
+use Rattle.std.proofs.Common.{[], ◌∷◌, ap, arith, length, sym, subst}
+use Rattle.outside.proofs.CallSteps.{run_then}
 use Rattle.frame_journal.specs.Group.{IsGroup}
-use Rattle.frame_journal.proofs.Waiting.{waits_none}
+use Rattle.frame_journal.proofs.Waiting.{gathers_long, waits_none}
 use Rattle.journal_migration.proofs.Back.{leaves_on}
+use Rattle.journal_compaction.specs.Planning.{plan_pages}
 use Rattle.journal_compaction.proofs.Working.{shut_one, shut_then, whole_written, works_flushed}
 use Rattle.journal_compaction.proofs.Working.{written_of}
 use Rattle.journal_compaction.proofs.writing.write_whole.Goals as goal
 
 pub write_plan-requires-clause-waits : goal.write_plan-requires-clause-waits
 write_plan-requires-clause-waits g c = subst IsGroup (sym c.requires.none) waits_none
+
+pub flush-requires-clause-room : goal.flush-requires-clause-room
+flush-requires-clause-room g c =
+    let waits = subst IsGroup (sym c.requires.none) waits_none in
+    let long = gathers_long c.args.writer.now c.write_plan.new.writer c.args.page.now.group
+    c.write_plan.new.page.group (plan_pages c.args.state.now.facts c.args.plan.now)
+    (g.D.Disk.tells c.args.disk.now).files (g.D.Disk.tells c.write_plan.new.disk).files waits
+    c.in_ok-write_plan.ensures.adding in
+    omega (arith, long, ap length c.requires.none, c.requires.room)
+
+pub returns-in_err-flush-clause-run : goal.returns-in_err-flush-clause-run
+returns-in_err-flush-clause-run g c =
+    run_then (g.D.Disk.tells c.args.disk.now) (g.D.Disk.tells c.write_plan.new.disk)
+    (g.D.Disk.tells c.flush.new.disk) c.write_plan.ensures.run c.flush.ensures.run
+
+pub returns-clause-run : goal.returns-clause-run
+returns-clause-run g c =
+    run_then (g.D.Disk.tells c.args.disk.now) (g.D.Disk.tells c.write_plan.new.disk)
+    (g.D.Disk.tells c.flush.new.disk) c.write_plan.ensures.run c.flush.ensures.run
 
 pub returns-clause-adding : goal.returns-clause-adding
 returns-clause-adding g c =

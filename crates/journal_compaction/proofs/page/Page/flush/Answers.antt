@@ -3,6 +3,7 @@ use Rattle.std.proofs.Common.{◌∙◌}
 use Rattle.std.specs.Prelude.{◌==◌}
 use Rattle.frame_journal.specs.Append.{framed_of, payload_of}
 use Rattle.frame_journal.specs.Gathering.{GathersFrames}
+use Rattle.frame_journal.specs.Group.{IsGroup}
 use Rattle.frame_journal.proofs.Waiting.{gathers_none, gathers_waits}
 use Rattle.frame_journal.proofs.Closed.{leaves_none}
 use Rattle.journal_compaction.specs.Paging.{closed_page}
@@ -23,8 +24,9 @@ returns-in_err-frame-clause-shut g c =
 
 pub returns-in_err-gather-clause-shut : goal.returns-in_err-gather-clause-shut
 returns-in_err-gather-clause-shut g c =
-    shut_one c.args.writer.now c.args.self.now.group (g.D.Disk.tells c.args.disk.now)
-    (g.D.Disk.tells c.gather.new.disk) c.requires.waits c.requires.works
+    shut_one c.args.writer.now c.frame.new.self.group (g.D.Disk.tells c.args.disk.now)
+    (g.D.Disk.tells c.gather.new.disk)
+    (subst IsGroup (sym c.frame.ensures.waits) c.requires.waits) c.requires.works
     c.gather.ensures.any_moment
 
 pub returns-clause-adding : goal.returns-clause-adding
@@ -39,8 +41,11 @@ returns-clause-adding g c =
     let some : 1 ≤ length p =
     some_bytes (length p) c.is_empty.result (c.is_empty.ensures
     ∙ ap (λ (l : List ℕ). length l == 0) c.as_slice.ensures.value) c.if-is_empty.false in
-    let one = gathers_one n n' c.args.self.now.group c.gather.new.group p framed o o' is
-    c.in_ok-gather.ensures.gathers in
+    let one : GathersFrames n n' c.args.self.now.group c.gather.new.group (p ∷ []) o o' =
+    subst (λ (l : List ℕ). GathersFrames n n' l c.gather.new.group (p ∷ []) o o')
+    c.frame.ensures.waits
+    (gathers_one n n' c.frame.new.self.group c.gather.new.group p framed o o' is
+    c.in_ok-gather.ensures.gathers) in
     let all : cond c.args.stays [] (closed_page p) ≡ p ∷ [] =
     ap (λ b. cond b [] (closed_page p)) c.if-stays.false
     ∙ closed_some p some in
@@ -49,21 +54,24 @@ returns-clause-adding g c =
 
 pub returns-clause-works : goal.returns-clause-works
 returns-clause-works g c =
-    works_gathered c.args.writer.now c.gather.new.self c.args.self.now.group c.gather.new.group
+    works_gathered c.args.writer.now c.gather.new.self c.frame.new.self.group c.gather.new.group
     (payload_of c.as_slice-2.result.now ∷ []) (g.D.Disk.tells c.args.disk.now)
-    (g.D.Disk.tells c.gather.new.disk) c.requires.waits c.gather.ensures.run
+    (g.D.Disk.tells c.gather.new.disk)
+    (subst IsGroup (sym c.frame.ensures.waits) c.requires.waits) c.gather.ensures.run
     c.in_ok-gather.ensures.gathers c.in_ok-gather.ensures.fits c.requires.works
 
 pub returns-clause-waits : goal.returns-clause-waits
 returns-clause-waits g c =
-    gathers_waits c.args.writer.now c.gather.new.self c.args.self.now.group c.gather.new.group
+    gathers_waits c.args.writer.now c.gather.new.self c.frame.new.self.group c.gather.new.group
     (payload_of c.as_slice-2.result.now ∷ []) (g.D.Disk.tells c.args.disk.now).files
-    (g.D.Disk.tells c.gather.new.disk).files c.requires.waits c.in_ok-gather.ensures.gathers
+    (g.D.Disk.tells c.gather.new.disk).files
+    (subst IsGroup (sym c.frame.ensures.waits) c.requires.waits) c.in_ok-gather.ensures.gathers
 
 pub returns-clause-shut : goal.returns-clause-shut
 returns-clause-shut g c =
-    shut_one c.args.writer.now c.args.self.now.group (g.D.Disk.tells c.args.disk.now)
-    (g.D.Disk.tells c.gather.new.disk) c.requires.waits c.requires.works
+    shut_one c.args.writer.now c.frame.new.self.group (g.D.Disk.tells c.args.disk.now)
+    (g.D.Disk.tells c.gather.new.disk)
+    (subst IsGroup (sym c.frame.ensures.waits) c.requires.waits) c.requires.works
     c.gather.ensures.any_moment
 
 pub returns-then-stays-clause-leaves : goal.returns-then-stays-clause-leaves
