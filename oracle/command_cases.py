@@ -491,15 +491,14 @@ def play_migrated(text):
 
 def left_at_each_call(second, new, frames, is_copied):
     """What the other file reads as behind each call of a journal's being written anew that fails, in order: a migration, in which the
-    old frames are read and copied, where frames are added in groups, or a compaction. Once its closed gate is on the disk, and before the
+    old frames are read and copied, or a compaction. Its frames are added in groups. Once its closed gate is on the disk, and before the
     write that opens it, the file is cut to its first byte."""
     shut = CLOSED + second[1:]
     before = [second] * (3 if is_copied else 0)
     gate = [second] + ([second, shut] if second[:1] in (b'', OPEN) else [])
     clear = gate + [CLOSED] * (calls_of_clear(second) - len(gate))
     reads = [CLOSED] * (2 * frames + 1) if is_copied else []
-    appends = groups_of(new) if is_copied else frames
-    return before + clear + [CLOSED] * 2 + reads + [CLOSED] * APPEND * appends + [CLOSED + new[1:], new]
+    return before + clear + [CLOSED] * 2 + reads + [CLOSED] * APPEND * groups_of(new) + [CLOSED + new[1:], new]
 
 
 def play_taken_back(text):

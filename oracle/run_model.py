@@ -536,7 +536,7 @@ class Store:
         twin.settle()
         calls += 4 * (frames_of(twin) - read) + calls_of_clear(twin.files[1 - twin.at])
         twin.compact()
-        return calls + 4 + 4 * frames_of(twin)
+        return calls + 4 + 4 * groups_of(twin.files[twin.at])
 
     def spelled(self, batch):
         return b''.join(entry_bytes(e, self.journal.name) for e in batch)

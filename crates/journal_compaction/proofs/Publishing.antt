@@ -46,7 +46,7 @@ use Rattle.journal_compaction.specs.Cited.{CompactionLaws}
 use Rattle.journal_compaction.specs.Compacting.{CompactsJournal, IsCompacted, StandsForEither}
 use Rattle.journal_compaction.specs.Faults.{fault_of}
 use Rattle.journal_compaction.specs.Planning.{AreWritten, IsPlan, plan_pages}
-use Rattle.journal_compaction.specs.Writing.{WritesPayloads, AppendsPayloads}
+use Rattle.frame_journal.specs.Gathering.{AppendsPayloads, WritesPayloads}
 use Rattle.journal_compaction.specs.Writing.{IsWriterShut}
 use Rattle.journal_compaction.proofs.Filling.{written}
 use Rattle.journal_compaction.proofs.Holding.{own_kept, shut_stands, stays_either, stays_then}

@@ -1,7 +1,7 @@
 -- A writer of frames: what it adds, and that its file has no open header at any moment.
 use Rattle.std.proofs.Common.{◌≡◌, ℕ, ◌+◌, ◌≤◌, Bool, false, List, [], ◌∷◌, ◌++◌, length, Option}
 use Rattle.std.proofs.Common.{Some, inl}
-use Rattle.std.proofs.Common.{inr, refl, sym, ap, subst, ◌∙◌, arith, append_assoc, append-nil}
+use Rattle.std.proofs.Common.{inr, refl, sym, ap, subst, ◌∙◌, append-nil, arith}
 use Rattle.std.specs.Prelude.{◌==◌}
 use Rattle.std.specs.Option.{ForSome}
 use Rattle.std.proofs.lemmas.Bool.{eqb-false}
@@ -11,105 +11,35 @@ use Rattle.outside.specs.Frames.{HasFrames, IsAtRest, is_open}
 use Rattle.outside.specs.Links.{Links, sent_of}
 use Rattle.outside.specs.Outside.{DiskRun, Moment, MomentsAre, Outside}
 use Rattle.outside.specs.Steps.{FileMoment, PassedMoments, other_of}
-use Rattle.outside.proofs.CallSteps.{becomes_map, becomes_none, becomes_then, becomes_told}
+use Rattle.outside.proofs.CallSteps.{becomes_told}
 use Rattle.outside.proofs.CallSteps.{image_file, image_other}
 use Rattle.outside.proofs.CallSteps.{moments_map, moments_none, moments_then, now_images, told_back}
-use Rattle.frame_journal.specs.Append.{AppendsFrame, BeforeOrWith, IsFramed, framed_of, payload_of}
+use Rattle.frame_journal.specs.Append.{IsFramed, framed_of, payload_of}
 use Rattle.frame_journal.specs.Create.{LeavesClosed, StaysClosed}
+use Rattle.frame_journal.specs.Gathering.{AppendsPayloads, Gathered, GathersFrames}
+use Rattle.frame_journal.specs.Gathering.{WritesPayloads}
+use Rattle.frame_journal.specs.Group.{AppendsFrames, BeforeOrWithAll, IsGroup, flushed}
 use Rattle.frame_journal.specs.Journal.{JournalValue}
-use Rattle.frame_journal.proofs.AppendSteps.{end_more}
 use Rattle.frame_journal.proofs.ClearSteps.{becomes_new}
 use Rattle.frame_journal.proofs.Closed.{closed_settled}
-use Rattle.frame_journal.proofs.Framed.{framed_as, framed_length, payload_framed}
+use Rattle.frame_journal.proofs.Framed.{framed_as, payload_framed}
+use Rattle.frame_journal.proofs.Waiting.{flushed_rests, frames_long, gathers_flushed}
+use Rattle.frame_journal.proofs.Waiting.{gathers_then, gathers_whole}
 use Rattle.journal_migration.specs.Starting.{StaysShut}
 use Rattle.journal_migration.proofs.Copied.{shut_header}
 use Rattle.journal_migration.proofs.Sides.{image_only}
-use Rattle.journal_compaction.specs.Paging.{frames_len}
-use Rattle.journal_compaction.specs.Writing.{WritesPayloads, AppendsPayloads, IsFileIdle}
+use Rattle.journal_compaction.specs.Writing.{IsFileIdle}
 use Rattle.journal_compaction.specs.Writing.{IsWriterShut}
-use Rattle.journal_compaction.proofs.Weighing.{one_frame}
-use Rattle.journal_compaction.proofs.Weighing as weighing
 
 -- ---- what is added
 
-adds_none : (file end : ℕ) (two : Two File) → AppendsPayloads file end [] two two
-adds_none file end two = record {
-  other = refl;
-  frames = λ header payloads frames is.
-      subst (HasFrames (file_of two file).now header) (sym (append-nil payloads))
-      frames;
-}
-
-adds_then : (file end : ℕ) (first second : List (List ℕ)) (a b c : Two File)
-    → AppendsPayloads file end first a b
-    → AppendsPayloads file (end + frames_len first) second b c
-    → AppendsPayloads file end (first ++ second) a c
-adds_then file end first second a b c one two = record {
-  other = two.other ∙ one.other;
-  frames = λ header payloads frames is.
-      subst (HasFrames (file_of c file).now header) (append_assoc payloads first second)
-      (two.frames header (payloads ++ first) (one.frames header payloads frames is)
-      (omega (arith, weighing.end_more payloads first, is)));
-}
-
-pub adding_none : (n : JournalValue) (o : Option (Two File)) → WritesPayloads n n [] o o
-adding_none n o = record {
-  grows = record { file_is = refl; format_is = refl; generation_is = refl; end_is = omega arith };
-  adds = becomes_none (AppendsPayloads n.file n.end []) o (adds_none n.file n.end);
-}
-
-pub adding_then : (n0 n1 n2 : JournalValue) (first second : List (List ℕ))
-    (o0 o1 o2 : Option (Two File))
-    → WritesPayloads n0 n1 first o0 o1 → WritesPayloads n1 n2 second o1 o2
-    → WritesPayloads n0 n2 (first ++ second) o0 o2
-adding_then n0 n1 n2 first second o0 o1 o2 one two =
-    let At : ℕ → ℕ → Type 0 = λ file end. RelatesTold (AppendsPayloads file end second) o1 o2 in
-    let there : At n0.file (n0.end + frames_len first) =
-    subst (λ end. At n0.file end) one.grows.end_is
-    (subst (λ file. At file n1.end) one.grows.file_is two.adds) in
-    record {
-      grows = record {
-        file_is = two.grows.file_is ∙ one.grows.file_is;
-        format_is = two.grows.format_is ∙ one.grows.format_is;
-        generation_is = two.grows.generation_is ∙ one.grows.generation_is;
-        end_is =
-            omega (arith, one.grows.end_is, two.grows.end_is, weighing.frames-append first second);
-      };
-      adds =
-          becomes_then (AppendsPayloads n0.file n0.end first)
-          (AppendsPayloads n0.file (n0.end + frames_len first) second)
-          (AppendsPayloads n0.file n0.end (first ++ second)) o0 o1 o2
-          (λ a b c x y. adds_then n0.file n0.end first second a b c x y) one.adds there;
-    }
-
 -- a frame more
-pub adding_one : (n n' : JournalValue) (p framed : List ℕ) (len : ℕ) (o o' : Option (Two File))
-    → framed ≡ framed_of p
-    → n' ≡ record n { end = n.end + length framed; len = len }
-    → RelatesTold (AppendsFrame n.file n.end framed) o o'
-    → WritesPayloads n n' (p ∷ []) o o'
-adding_one n n' p framed len o o' is moved becomes =
-    let same : payload_of framed ≡ p = ap payload_of is ∙ payload_framed p in
-    let long : length framed ≡ 5 + length p = ap length is ∙ framed_length p in
-    let end : n'.end ≡ n.end + length framed = ap (λ (v : JournalValue). v.end) moved in
-    record {
-      grows = record {
-        file_is = ap (λ (v : JournalValue). v.file) moved;
-        format_is = ap (λ (v : JournalValue). v.format) moved;
-        generation_is = ap (λ (v : JournalValue). v.generation) moved;
-        end_is = omega (arith, end, long, one_frame p);
-      };
-      adds =
-          becomes_map (AppendsFrame n.file n.end framed) (AppendsPayloads n.file n.end (p ∷ [])) o
-          o'
-          (λ a b appends. record {
-            other = appends.other;
-            frames = λ header payloads frames end_is.
-                subst (λ (q : List ℕ). HasFrames (file_of b n.file).now header (payloads ++ q ∷ []))
-                same
-                (appends.frames header payloads frames end_is);
-          }) becomes;
-    }
+pub gathers_one : (n n' : JournalValue) (g g' p framed : List ℕ) (o o' : Option (Two File))
+    → framed ≡ framed_of p → GathersFrames n n' g g' (payload_of framed ∷ []) o o'
+    → GathersFrames n n' g g' (p ∷ []) o o'
+gathers_one n n' g g' p framed o o' is =
+    subst (λ (q : List ℕ). GathersFrames n n' g g' (q ∷ []) o o')
+    (ap payload_of is ∙ payload_framed p)
 
 -- ---- the writer's file
 
@@ -126,29 +56,29 @@ pub idle_works : (n : JournalValue) (o : Option (Two File)) → ForSome o (IsWri
     → ForSome o (IsFileIdle n.file)
 idle_works n o works two told = idle_so n two (works two told)
 
-works_more : (n n' : JournalValue) (framed : List ℕ) (two two' : Two File) → IsFramed framed
-    → IsWriterShut n two
-    → AppendsFrame n.file n.end framed two two'
-    → n'.file ≡ n.file → n'.end ≡ n.end + length framed → IsWriterShut n' two'
-works_more n n' framed two two' is works appends file end =
-    let Rests : ℕ → ℕ → Type 0 = λ t e. IsAtRest two' t e in
+works_more : (n n' : JournalValue) (written : List (List ℕ)) (two two' : Two File)
+    → IsWriterShut n two → WritesPayloads n n' written (Some two) (Some two')
+    → IsAtRest two' n'.file n'.end → IsWriterShut n' two'
+works_more n n' written two two' works writes rest =
+    let header = works.shut.gate ∷ works.shut.behind in
     record {
-      at_rest =
-          subst (λ (t : ℕ). Rests t n'.end) (sym file)
-          (subst (Rests n.file) (sym end) appends.at_rest);
+      at_rest = rest;
       shut = record {
         gate = works.shut.gate;
         behind = works.shut.behind;
-        payloads = works.shut.payloads ++ payload_of framed ∷ [];
+        payloads = works.shut.payloads ++ written;
         closed = works.shut.closed;
         header = works.shut.header;
         frames =
-            subst (λ (t : ℕ). HasFrames (file_of two' t).now (works.shut.gate ∷ works.shut.behind)
-            (works.shut.payloads ++ payload_of framed ∷ [])) (sym file)
-            (appends.frames (works.shut.gate ∷ works.shut.behind) works.shut.payloads
-            works.shut.frames
-            works.shut.end_is);
-        end_is = end ∙ end_more works.shut.payloads n.end framed is works.shut.end_is;
+            subst (λ (t : ℕ). HasFrames (file_of two' t).now header
+            (works.shut.payloads ++ written)) (sym writes.grows.file_is)
+            (writes.adds.frames header works.shut.payloads works.shut.frames works.shut.end_is);
+        end_is = omega (
+          arith,
+          writes.grows.end_is,
+          works.shut.end_is,
+          frames_long works.shut.payloads written,
+        );
       };
     }
 
@@ -159,24 +89,50 @@ pub framed_is : (p framed : List ℕ) → framed ≡ framed_of p → 1 ≤ lengt
     → IsFramed framed
 framed_is p framed is some few = framed_as p framed is (some, few)
 
--- what was told of the files before the frame is told behind it
-pub works_one : (n n' : JournalValue) (p framed : List ℕ) (len : ℕ) (o o' : Outside)
-    → framed ≡ framed_of p
-    → 1 ≤ length p → length p ≤ 65536
-    → n' ≡ record n { end = n.end + length framed; len = len } → DiskRun o o'
-    → RelatesTold (AppendsFrame n.file n.end framed) o.files o'.files
-    → ForSome o.files (IsWriterShut n)
+-- what was told of the files before frames were gathered is told behind it
+pub works_gathered : (n n' : JournalValue) (g g' : List ℕ) (added : List (List ℕ))
+    (o o' : Outside) → IsGroup g → DiskRun o o' → GathersFrames n n' g g' added o.files o'.files
+    → ForSome o'.files (λ x. IsAtRest x n'.file n'.end) → ForSome o.files (IsWriterShut n)
     → ForSome o'.files (IsWriterShut n')
-works_one n n' p framed len o o' is some few moved run becomes works x told =
+works_gathered n n' g g' added o o' waits run gathers rests works x told =
     let before = told_back o o' x run.same_told told in
-    let new = becomes_told (AppendsFrame n.file n.end framed) o.files o'.files before.0 before.1
-    becomes in
-    let both : Some new.0 ≡ Some x = sym new.1 ∙ told in
-    let one : new.0 ≡ x = cc in
-    subst (IsWriterShut n') one
-    (works_more n n' framed before.0 new.0 (framed_is p framed is some few)
-    (works before.0 before.1) new.2
-    (ap (λ (v : JournalValue). v.file) moved) (ap (λ (v : JournalValue). v.end) moved))
+    let all = waits.payloads ++ added in
+    let at : Gathered n n' g' all (Some before.0) (Some x) =
+    subst (λ (y : Option (Two File)). Gathered n n' g' all (Some before.0) y) told
+    (subst (λ (y : Option (Two File)). Gathered n n' g' all y o'.files) before.1
+    (gathers.each waits.payloads waits.joined)) in
+    works_more n n' at.written before.0 x (works before.0 before.1) at.writes (rests x told)
+
+-- what was written of them
+pub written_of : (n n' : JournalValue) (g g' : List ℕ) (added : List (List ℕ))
+    (o o' : Option (Two File)) (waits : IsGroup g)
+    (gathers : GathersFrames n n' g g' added o o')
+    → WritesPayloads n n' (gathers.each waits.payloads waits.joined).written o o'
+written_of n n' g g' added o o' waits gathers =
+    (gathers.each waits.payloads waits.joined).writes
+
+-- ---- those that still wait
+
+pub works_flushed : (n n' : JournalValue) (g : List ℕ) (o o' : Outside) → IsGroup g
+    → DiskRun o o' → n' ≡ flushed n g → RelatesTold (AppendsFrames n.file n.end g) o.files o'.files
+    → ForSome o.files (IsWriterShut n) → ForSome o'.files (IsWriterShut n')
+works_flushed n n' g o o' waits run is becomes works =
+    works_gathered n n' g (0 ∷ []) [] o o' waits run
+    (gathers_flushed n n' g o.files o'.files is becomes)
+    (flushed_rests n n' g o.files o'.files is becomes) works
+
+-- all that was gathered where none waited
+pub whole_written : (n0 n1 n2 : JournalValue) (g0 g1 : List ℕ) (added : List (List ℕ))
+    (o0 o1 o2 : Option (Two File)) → g0 ≡ 0 ∷ [] → GathersFrames n0 n1 g0 g1 added o0 o1
+    → n2 ≡ flushed n1 g1 → RelatesTold (AppendsFrames n1.file n1.end g1) o1 o2
+    → WritesPayloads n0 n2 added o0 o2
+whole_written n0 n1 n2 g0 g1 added o0 o1 o2 none gathers is becomes =
+    let first : GathersFrames n0 n1 (0 ∷ []) g1 added o0 o1 =
+    subst (λ (l : List ℕ). GathersFrames n0 n1 l g1 added o0 o1) none gathers in
+    let all = gathers_then n0 n1 n2 (0 ∷ []) g1 (0 ∷ []) added [] o0 o1 o2 first
+    (gathers_flushed n1 n2 g1 o1 o2 is becomes) in
+    subst (λ (ps : List (List ℕ)). WritesPayloads n0 n2 ps o0 o2) (append-nil added)
+    (gathers_whole n0 n2 (added ++ []) o0 o2 all)
 
 -- ---- moments
 
@@ -196,22 +152,22 @@ shut_none file o idle two told =
       nothing_sent = at.sent;
     })
 
--- a frame was written, or was not
-pub shut_one : (n : JournalValue) (framed : List ℕ) (o o' : Outside) → ForSome o.files
-    (IsWriterShut n)
+-- those that waited were written, or were not
+pub shut_one : (n : JournalValue) (g : List ℕ) (o o' : Outside) → IsGroup g
+    → ForSome o.files (IsWriterShut n)
     → ((two : Two File) → o.files ≡ Some two
-    → PassedMoments two o o' n.file (BeforeOrWith (file_of two n.file).now n.end framed))
+    → PassedMoments two o o' n.file (BeforeOrWithAll (file_of two n.file).now n.end g))
     → StaysShut n.file o o'
-shut_one n framed o o' works passed two told =
+shut_one n g o o' waits works passed two told =
     let w = works two told in
     let bytes = (file_of two n.file).now in
     let sent = sent_of o.links.told in
-    moments_map o o' (FileMoment (BeforeOrWith bytes n.end framed) two sent n.file)
+    moments_map o o' (FileMoment (BeforeOrWithAll bytes n.end g) two sent n.file)
     (FileMoment (λ left. is_open left ≡ false) two sent n.file)
     (λ m moment. record {
       this =
-          elim (moment.this (w.shut.gate ∷ w.shut.behind) w.shut.payloads w.shut.frames
-          w.shut.end_is) [
+          elim (moment.this waits.payloads (w.shut.gate ∷ w.shut.behind) w.shut.payloads
+          waits.joined w.shut.frames w.shut.end_is) [
             | inl before ↦ shut_header (file_of m.files n.file) w.shut.gate w.shut.behind _ before
                 w.shut.closed
             | inr with_it ↦ shut_header (file_of m.files n.file) w.shut.gate w.shut.behind _ with_it

@@ -1,41 +1,20 @@
 -- A writer of frames into a prepared file.
 use Rattle.std.specs.Prelude.{◌≡◌, ℕ, ◌+◌, ◌≤◌, ◌*◌, false, List, [], ◌++◌, length, Option}
 use Rattle.outside.specs.declared.limits.TheConstants.{MAX_FRAME}
-use Rattle.outside.specs.Disk.{RelatesTold}
 use Rattle.outside.specs.Files.{Two, File, NothingPending, file_of}
-use Rattle.outside.specs.Frames.{HasFrames, IsAtRest, end_of, is_open}
+use Rattle.outside.specs.Frames.{IsAtRest, is_open}
 use Rattle.outside.specs.Steps.{other_of}
+use Rattle.frame_journal.specs.Gathering.{GathersFrames}
 use Rattle.frame_journal.specs.Journal.{JournalValue}
 use Rattle.sync_rules.specs.Facts.{Facts}
 use Rattle.journal_migration.specs.Copying.{IsShut}
 use Rattle.journal_compaction.specs.declared.items.Item.{Item}
-use Rattle.journal_compaction.specs.Paging.{frames_len, pages}
+use Rattle.journal_compaction.specs.Paging.{pages}
 
 -- nothing is pending in the writer's file, which is shut at the writer's end
 pub record IsWriterShut (n : JournalValue) (two : Two File) : Type 0 where
   pub at_rest : IsAtRest two n.file n.end
   pub shut : IsShut (file_of two n.file).now n.end
-
--- frames with these payloads come behind those that the file has; the other file is as before
-pub record AppendsPayloads (file end : ℕ) (added : List (List ℕ))
-    (old new : Two File) : Type 0 where
-  pub other : other_of new file ≡ other_of old file
-  pub frames : (header : List ℕ) (payloads : List (List ℕ))
-      → HasFrames (file_of old file).now header payloads
-      → end ≡ end_of payloads → HasFrames (file_of new file).now header (payloads ++ added)
-
--- a writer moved on by frames with these payloads
-pub record MovesWriterOn (n n' : JournalValue) (added : List (List ℕ)) : Type 0 where
-  pub file_is : n'.file ≡ n.file
-  pub format_is : n'.format ≡ n.format
-  pub generation_is : n'.generation ≡ n.generation
-  pub end_is : n'.end ≡ n.end + frames_len added
-
--- frames with these payloads were written
-pub record WritesPayloads (n n' : JournalValue) (added : List (List ℕ))
-    (old new : Option (Two File)) : Type 0 where
-  pub grows : MovesWriterOn n n' added
-  pub adds : RelatesTold (AppendsPayloads n.file n.end added) old new
 
 -- nothing is pending in the file, which has no open header
 pub record IsFileIdle (file : ℕ) (two : Two File) : Type 0 where
@@ -56,11 +35,11 @@ HasSpace left page = length page + 34 * left ≤ MAX_FRAME
 
 -- ---- all items of a list
 
--- of these items all but the rest are written, or are in the payload that is being filled and takes
--- so many more
+-- of these items all but the rest are written, or wait in a group, or are in the payload that is
+-- being filled and takes so many more
 pub record Written (f : Facts) (most : ℕ) (items rest : List Item) (left : ℕ) (page : List ℕ)
-    (n n' : JournalValue)
+    (n n' : JournalValue) (group group' : List ℕ)
     (old new : Option (Two File)) : Type 0 where
   pub added : List (List ℕ)
   pub goes_on : added ++ pages f most left page rest ≡ pages f most 0 [] items
-  pub adding : WritesPayloads n n' added old new
+  pub adding : GathersFrames n n' group group' added old new

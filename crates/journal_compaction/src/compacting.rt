@@ -25,14 +25,15 @@ use std::alloc::Global;
 use sync_rules::Clients;
 
 /// Writes the brief account of a journal into the other file, with the next generation, and makes
-/// it the journal: the other file is cleared and prepared, every batch is appended to it, and then
-/// its header's gate is opened. The journal is settled and in format 2, and the state is that of it.
-/// It answers the new journal.
+/// it the journal: the other file is cleared and prepared, every batch is appended to it, in
+/// groups, and then its header's gate is opened. The journal is settled and in format 2, and the
+/// state is that of it. It answers the new journal.
 ///
 /// At each moment the files stand for the journal or for its brief account; after `Full` and
 /// `Memory` they still hold the journal as before. `Full` comes exactly where the brief account,
 /// in bytes and with 10 for each step that may yet be made, would pass the limit; then no call on
-/// the disk was made. It takes the memory of a second state and of a plan of the account.
+/// the disk was made. It takes the memory of a second state, of a plan of the account and of one
+/// group of frames.
 ///
 /// The journal's own file is neither read nor written. Once the other file's gate is closed, and
 /// before it is opened, what was written of that file is taken back after a failure: after `Memory`
