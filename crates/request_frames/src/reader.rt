@@ -1,8 +1,8 @@
 //! The reader of a stream of requests.
-ghost use Rattle.std.specs.Prelude.{◌≡◌, ◌≤◌, ◌<◌, ◌-◌, ℕ, List, [], length, take, IfOk, OnOk, OnErr};
+ghost use Rattle.std.specs.Prelude.{◌≡◌, ◌≤◌, ◌<◌, ◌-◌, ℕ, List, [], length, take, IfOk, OnOk};
 ghost use Rattle.request_frames.specs.declared.reader.Stage.TheVariants as stage;
 ghost use Rattle.request_frames.specs.Requests.{are_words, ending, requests};
-ghost use Rattle.std.specs.Prelude.{◌+◌, ◌++◌};
+ghost use Rattle.std.specs.Prelude.{OnErr, ◌+◌, ◌++◌};
 ghost use Rattle.std.specs.Vec.{vec_capacity, vec_len};
 ghost use Rattle.request_frames.specs.Reading.{Awaits, IsAsked, KeepsMost, LeavesAt, ReadsOn};
 ghost use Rattle.request_frames.specs.Reading.{StandsFor, end_at, fresh_reader, size_at};
