@@ -1,5 +1,5 @@
 -- What is found at the front of some bytes depends on no more than the bytes up to its line feed.
-use Rattle.std.proofs.Common.{◌≡◌, ◌≢◌, ℕ, zero, suc, ◌+◌, ◌-◌, ◌<◌, ◌≤◌, min, Bool, true, false, List, [], ◌∷◌, ◌++◌, length, take, drop, get_or, refl, sym, ap, ◌∙◌, arith, lt-ltb, le-ltb, ltb-true, ltb-false, length-append, length-drop}
+use Rattle.std.proofs.Common.{◌≡◌, ℕ, ◌+◌, ◌<◌, ◌≤◌, min, Bool, true, false, List, [], ◌++◌, length, take, drop, get_or, refl, sym, ap, ◌∙◌, arith, lt-ltb, le-ltb, ltb-true, ltb-false, length-append}
 use Rattle.std.specs.Prelude.{Option, Some, None, nat_lt, if◌then◌else◌, cond}
 use Rattle.std.specs.List.{after_first, before_first, position, position_or_len}
 use Rattle.std.proofs.lemmas.Fmt.{decimal_nonempty}

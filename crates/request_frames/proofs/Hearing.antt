@@ -1,14 +1,13 @@
 -- A stream heard piece by piece.
 use Rattle.std.proofs.Common.{◌≡◌, ◌==◌, ℕ, zero, suc, take, arith, List, [], ◌∷◌, ◌++◌, length, refl, sym, ap, ◌∙◌}
 use Rattle.std.proofs.lemmas.List.{append-nil, append_assoc}
-use Rattle.request_frames.specs.Laws.{HasRead, KeepsOf, ReadingMore, TellsOne}
-use Rattle.request_frames.specs.Reading.{Awaits, Hears, IsTold, KeepsAt, KeepsMost, ReaderState, ReadsOn, StandsAt, StandsFor, StandsInInput, ToldAt, end_at, fresh_reader}
-use Rattle.request_frames.specs.Requests.{One, Request, ending, requests}
+use Rattle.request_frames.specs.Laws.{HasRead, ReadingMore}
+use Rattle.request_frames.specs.Reading.{Awaits, KeepsAt, KeepsMost, ReaderState, ReadsOn, StandsAt, StandsFor, ToldAt, end_at, fresh_reader}
+use Rattle.request_frames.specs.Requests.{Request, ending, requests}
 use Rattle.request_frames.specs.declared.reader.Next.{Next}
 use Rattle.request_frames.specs.declared.reader.Next.TheVariants as next
 use Rattle.request_frames.specs.declared.reader.Stage.{Stage}
 use Rattle.request_frames.specs.declared.reader.Stage.TheVariants as stage
-use Rattle.request_frames.specs.Heads.{length_of}
 use Rattle.request_frames.proofs.Stages.{begins, ends_so}
 use Rattle.request_frames.proofs.Streams.{first_is}
 

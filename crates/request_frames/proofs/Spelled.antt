@@ -1,15 +1,15 @@
 -- What is spelled is read back.
-use Rattle.std.proofs.Common.{◌≡◌, ◌≢◌, ℕ, zero, suc, ◌+◌, ◌-◌, ◌^◌, ◌<◌, ◌≤◌, ◌==◌, Bool, true, false, List, [], ◌∷◌, ◌++◌, length, take, drop, get_or, refl, sym, ap, ◌∙◌, arith, length-append, length-drop, ltb-true, ltb-false, ne_eqb}
-use Rattle.std.specs.Prelude.{Some, None, nat_lt, codes, decimal, if◌then◌else◌}
-use Rattle.std.specs.List.{after_first, before_first, position, position_or_len}
+use Rattle.std.proofs.Common.{◌≡◌, ℕ, zero, suc, ◌+◌, ◌-◌, ◌^◌, ◌<◌, ◌≤◌, ◌==◌, Bool, true, false, List, [], ◌∷◌, ◌++◌, length, take, drop, get_or, refl, sym, ap, ◌∙◌, arith, length-append, ltb-true, ltb-false, ne_eqb}
+use Rattle.std.specs.Prelude.{Some, nat_lt, codes, decimal}
+use Rattle.std.specs.List.{position, position_or_len}
 use Rattle.std.specs.Str.{bytes_eq}
 use Rattle.std.proofs.lemmas.Bool.{false_from_ne_true}
 use Rattle.std.proofs.lemmas.Str.Parse.{digit_at}
 use Rattle.std.proofs.lemmas.Fmt.{decimal_is_IsNumeral, decimal_nonempty, length-decimal-le}
-use Rattle.std.proofs.lemmas.List.{append_assoc, append_cancel_left, drop_at, get_or_append_left, get_or-append-add, get_or_at, get_or-take, length-take, take_at}
+use Rattle.std.proofs.lemmas.List.{append_assoc, drop_at, get_or_append_left, get_or-append-add, get_or_at, get_or-take, length-take, take_at}
 use Rattle.std.proofs.lemmas.List.Sums.{position_or_len_is}
 use Rattle.std.proofs.lemmas.Slice.Eq.{bytes_eq-Decides}
-use Rattle.request_frames.specs.Heads.{IsHead, answer_line, both, found_head, found_line, head_in, head_on, head_text, is_feed, is_space, length_of, number_in, size_in, size_text, some_bytes}
+use Rattle.request_frames.specs.Heads.{IsHead, head_in, head_on, head_text, is_feed, is_space, length_of, size_in, size_text}
 use Rattle.request_frames.specs.Laws.{Answer, IsAnswer, answer_text}
 use Rattle.request_frames.specs.Requests.{IsRequest, One, Request, found_in, head_of, request_text}
 use Rattle.request_frames.specs.Reading.{IsLineOf}

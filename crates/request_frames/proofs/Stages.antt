@@ -1,9 +1,9 @@
 -- What a reader's steps do with the bytes of a request.
-use Rattle.std.proofs.Common.{◌≡◌, ◌≢◌, ℕ, zero, suc, ◌+◌, ◌-◌, ◌<◌, ◌≤◌, min, Bool, true, false, List, [], ◌∷◌, ◌++◌, length, take, drop, refl, sym, ap, subst, ◌==◌, ◌∙◌, arith, lt-ltb, le-ltb, ne_eqb, length-append, length-drop}
+use Rattle.std.proofs.Common.{◌≡◌, ℕ, zero, suc, ◌+◌, ◌-◌, ◌<◌, ◌≤◌, min, Bool, true, false, List, [], ◌∷◌, ◌++◌, length, take, drop, refl, sym, ap, subst, ◌==◌, ◌∙◌, arith, lt-ltb, le-ltb, ne_eqb, length-append}
 use Rattle.std.specs.Prelude.{nat_lt, if◌then◌else◌}
-use Rattle.std.proofs.lemmas.List.{append-nil, append_assoc, drop_at, length-take, length-take-le, take-take, take_all, take_at, take-append-drop, drop-append-le, take-append-le}
+use Rattle.std.proofs.lemmas.List.{append-nil, append_assoc, drop_at, length-take, length-take-le, take-take, take_all, take_at, take-append-drop}
 use Rattle.request_frames.specs.Heads.{IsHead, head_in, length_of}
-use Rattle.request_frames.specs.Requests.{Found, Fault, More, One, Request, are_words, ending, ending_for, found_at, found_behind, found_in, found_words, requests}
+use Rattle.request_frames.specs.Requests.{Fault, More, One, are_words, ending, ending_for, found_behind, found_in, found_words, requests}
 use Rattle.request_frames.specs.Reading.{Awaits, AwaitsAt, Hears, IsLineOf, IsTold, LeavesAt, ReaderState, SoundAt, end_at, StandsAt, StandsFor, StandsInInput, StandsInWords}
 use Rattle.request_frames.specs.declared.head.FoundHead.TheVariants as head
 use Rattle.request_frames.specs.declared.head.Head.{Head}

@@ -1,5 +1,5 @@
 -- The requests of a stream, one by one.
-use Rattle.std.proofs.Common.{◌≡◌, ◌≢◌, ℕ, zero, suc, ◌+◌, ◌-◌, ◌<◌, ◌≤◌, Bool, true, false, List, [], ◌∷◌, ◌++◌, length, take, drop, refl, sym, ap, ◌∙◌, arith, length-drop}
+use Rattle.std.proofs.Common.{◌≡◌, ℕ, zero, suc, ◌<◌, ◌≤◌, Bool, true, false, List, [], ◌∷◌, length, take, drop, refl, sym, ap, ◌∙◌, arith, length-drop}
 use Rattle.std.specs.Prelude.{nat_lt, if◌then◌else◌}
 use Rattle.request_frames.specs.Requests.{Found, Fault, More, One, Parsed, Request, are_words, before, ending, ending_for, found_at, found_behind, found_in, found_words, parsed, requests, rest, step, stop}
 use Rattle.request_frames.specs.Heads.{head_in, length_of}
@@ -7,7 +7,6 @@ use Rattle.request_frames.specs.declared.head.FoundHead.{FoundHead}
 use Rattle.request_frames.specs.declared.head.FoundHead.TheVariants as head
 use Rattle.request_frames.specs.declared.head.Head.{Head}
 use Rattle.request_frames.specs.declared.head.InputSize.{InputSize}
-use Rattle.request_frames.specs.declared.reader.Ending.TheVariants as ends
 use Rattle.request_frames.proofs.Heads.{head_stays}
 
 left_of : (n : ℕ) (b left : List ℕ) (q r : Request) → One q (drop n b) ≡ One r left → length left ≤ length b

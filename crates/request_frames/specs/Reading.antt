@@ -1,6 +1,6 @@
 -- A reader of a stream that comes in pieces: at which bytes of a request it stands, its front as far as
 -- it came, which is the head or the words, and what is kept of the input.
-use Rattle.std.specs.Prelude.{◌≡◌, ℕ, ◌<◌, ◌≤◌, min, Bool, true, false, Option, Some, None, List, [], ◌∷◌, ◌++◌, length, take}
+use Rattle.std.specs.Prelude.{◌≡◌, ℕ, ◌<◌, ◌≤◌, min, Bool, true, false, Option, Some, None, List, [], ◌++◌, length, take}
 use Rattle.request_frames.specs.declared.head.TheConstants.{HEAD_LEN, MAX_INPUT, MAX_WORDS}
 use Rattle.request_frames.specs.declared.head.FoundHead.TheVariants as found
 use Rattle.request_frames.specs.declared.head.Head.{Head}
@@ -125,6 +125,18 @@ LeavesAt next.Words used len new = IsAsked new.at
 LeavesAt next.Whole used len new = IsWhole new.at
 LeavesAt next.More used len new = (used ≡ len) × Awaits new
 LeavesAt next.Fault used len new = (used ≡ len) × (new.at ≡ stage.Fault)
+
+-- how many bytes of the input were asked for, inside it or behind it
+abbrev pub asked_at : Stage → Option ℕ
+asked_at (stage.Input size most came) = Some most
+asked_at (stage.Whole size most) = Some most
+asked_at _ = None
+
+-- what stands asked once a reader has heard more from here: what was asked before the input began, and
+-- nothing where it has not begun
+abbrev pub asked_from : Stage → Option ℕ
+asked_from (stage.Input size most came) = Some most
+asked_from _ = None
 
 -- the input that comes is kept, at most so many bytes of it
 abbrev pub KeepsAt : ℕ → Stage → ReaderState → ReaderState → Type 0

@@ -23,8 +23,8 @@ pub fn readings_begin()
     ensures { ReadingsBegin }
 {}
 
-/// What is heard of a piece comes behind what was heard before: the request that is told is the next
-/// of the stream, and of its input is kept what was asked for.
+/// What is heard of a piece comes behind what was heard before: the request that is told is the
+/// next of the stream, and of its input is kept what was asked for.
 pub fn readings_go_on()
     ensures { ReadingsGoOn }
 {}

@@ -19,3 +19,6 @@ pub use laws::{
     readings_go_on, requests_read_back,
 };
 pub use reader::{Ending, Heard, Next, Reader, Stage};
+
+#[cfg(test)]
+mod tests;

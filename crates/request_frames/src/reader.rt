@@ -1,11 +1,12 @@
 //! The reader of a stream of requests.
-ghost use Rattle.std.specs.Prelude.{◌≡◌, ◌≤◌, ◌<◌, ◌-◌, ℕ, List, [], length, take, IfOk, OnOk, OnErr};
+ghost use Rattle.std.specs.Prelude.{◌≡◌, ◌≤◌, ◌<◌, ◌-◌, ℕ, List, [], length, take, IfOk, OnOk};
 ghost use Rattle.request_frames.specs.declared.reader.Stage.TheVariants as stage;
 ghost use Rattle.request_frames.specs.Requests.{are_words, ending, requests};
-ghost use Rattle.std.specs.Prelude.{◌+◌, ◌++◌};
+ghost use Rattle.std.specs.Prelude.{OnErr, ◌+◌, ◌++◌};
 ghost use Rattle.std.specs.Vec.{vec_capacity, vec_len};
 ghost use Rattle.request_frames.specs.Reading.{Awaits, IsAsked, KeepsMost, LeavesAt, ReadsOn};
-ghost use Rattle.request_frames.specs.Reading.{StandsFor, end_at, fresh_reader, size_at};
+ghost use Rattle.request_frames.specs.Reading.{StandsFor, asked_at, asked_from, end_at};
+ghost use Rattle.request_frames.specs.Reading.{fresh_reader, size_at};
 
 use crate::head::{FoundHead, HEAD_LEN, Head, InputSize, MAX_INPUT, MAX_WORDS, head_of};
 use std::alloc::{AllocError, Global};
@@ -102,6 +103,7 @@ impl Reader {
         ensures reads { ReadsOn (take result.used piece.now) self.old result.next self.new }
         ensures within { result.used ≤ length piece.now }
         ensures left { LeavesAt result.next result.used (length piece.now) self.new }
+        ensures asked { asked_at self.new.at ≡ asked_from self.old.at }
     {
         match self.at {
             Stage::Head => self.hear_head(piece),
@@ -129,6 +131,7 @@ impl Reader {
         ensures reads { ReadsOn (take result.used piece.now) self.old result.next self.new }
         ensures within { result.used ≤ length piece.now }
         ensures left { LeavesAt result.next result.used (length piece.now) self.new }
+        ensures asked { asked_at self.new.at ≡ asked_from self.old.at }
     {
         let held = self.front.len();
         let count = piece.len().min(HEAD_LEN - held);
@@ -166,6 +169,7 @@ impl Reader {
         ensures reads { ReadsOn (take result.used piece.now) self.old result.next self.new }
         ensures within { result.used ≤ length piece.now }
         ensures left { LeavesAt result.next result.used (length piece.now) self.new }
+        ensures asked { asked_at self.new.at ≡ asked_from self.old.at }
     {
         let count = piece.len().min(head.words - self.front.len());
         extend(&mut self.front, &piece[..count]);
@@ -195,6 +199,7 @@ impl Reader {
         ensures reads { ReadsOn (take result.used piece.now) self.old result.next self.new }
         ensures within { result.used ≤ length piece.now }
         ensures left { LeavesAt result.next result.used (length piece.now) self.new }
+        ensures asked { asked_at self.new.at ≡ asked_from self.old.at }
     {
         let room = most - self.kept.len();
         let count = piece.len().min(size.len() - came);

@@ -1,4 +1,4 @@
-use Rattle.std.proofs.Common.{◌≡◌, ◌==◌, Bool, length, vec_len, sym, ap, ◌∙◌, rules}
+use Rattle.std.proofs.Common.{◌≡◌, Bool, length, vec_len, sym, ap, ◌∙◌, rules}
 use Rattle.request_frames.specs.Reading.{end_at}
 use Rattle.request_frames.proofs.Stages.{ends_so, state_at, waits_at}
 use Rattle.request_frames.proofs.reader.Reader.end.Goals as goal

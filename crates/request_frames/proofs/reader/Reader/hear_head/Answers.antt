@@ -1,4 +1,4 @@
-use Rattle.std.proofs.Common.{◌≡◌, ◌++◌, ◌+◌, ◌-◌, ◌≤◌, ℕ, List, [], length, take, drop, vec_len, sym, ap, ◌∙◌, arith, rules, length-append, length-drop, length-take-le}
+use Rattle.std.proofs.Common.{◌≡◌, ◌++◌, ◌-◌, ◌≤◌, length, take, vec_len, sym, ap, ◌∙◌, arith, rules, length-drop, length-take-le}
 use Rattle.std.proofs.lemmas.List.{take_rest}
 use Rattle.std.specs.Vec.{vec_capacity}
 use Rattle.request_frames.specs.Heads.{head_in}

@@ -1,6 +1,5 @@
-use Rattle.std.proofs.Common.{◌≡◌, ◌++◌, ◌+◌, ◌-◌, ◌≤◌, min, length, take, vec_len, sym, ap, ◌∙◌, arith, rules}
+use Rattle.std.proofs.Common.{◌++◌, ◌+◌, take, vec_len, ap, ◌∙◌, arith}
 use Rattle.std.specs.Vec.{vec_capacity}
-use Rattle.request_frames.specs.Heads.{length_of}
 use Rattle.request_frames.specs.Reading.{ReaderState}
 use Rattle.request_frames.proofs.Stages.{input_ends, input_heard, input_sound, input_state}
 use Rattle.request_frames.proofs.reader.Reader.hear_input.Goals as goal

@@ -1,4 +1,4 @@
-use Rattle.std.proofs.Common.{◌≡◌, ◌++◌, ◌≤◌, length, take, vec_len, sym, ap, ◌∙◌, arith, rules, length-append, length-take-le}
+use Rattle.std.proofs.Common.{◌≡◌, ◌++◌, length, take, vec_len, sym, ap, ◌∙◌, arith, rules, length-take-le}
 use Rattle.request_frames.specs.Requests.{are_words}
 use Rattle.request_frames.proofs.Stages.{words_refused, words_state, words_whole}
 use Rattle.request_frames.proofs.reader.Reader.hear_words.Goals as goal
