@@ -1,14 +1,13 @@
 -- A file whose header no crash opens, call by call.
-use Rattle.std.proofs.Common.{◌≡◌, ◌⊎◌, ℕ, zero, suc, ◌+◌, ◌<◌, ◌≤◌, min, Bool, true, false, List}
+use Rattle.std.proofs.Common.{◌≡◌, ℕ, zero, suc, ◌+◌, ◌<◌, ◌≤◌, min, Bool, true, false, List}
 use Rattle.std.proofs.Common.{[], ◌∷◌, ◌++◌, length, take, drop, Option, None, Some, Result, Ok, Err}
 use Rattle.std.proofs.Common.{refl, sym, ap, ◌∙◌, subst, inl, inr, arith}
-use Rattle.std.specs.Prelude.{slice_index, nat_le, nat_lt, ◌||◌}
-use Rattle.std.specs.List.{list_any}
+use Rattle.std.specs.Prelude.{slice_index, ◌||◌}
 use Rattle.std.proofs.lemmas.Bool.Decides.{nat_tests}
 use Rattle.outside.specs.declared.failed.Failed.{Failed}
-use Rattle.outside.specs.Files.{Two, File, IsFileImage, NothingPending, file_of, is_written}
+use Rattle.outside.specs.Files.{Two, File, IsFileImage, file_of, is_written}
 use Rattle.outside.specs.Files.{is_within, settled, with_file}
-use Rattle.outside.specs.Disk.{CutsFile, IsTorn, RelatesTold, SyncsFile, WritesFile, after_cut}
+use Rattle.outside.specs.Disk.{CutsFile, RelatesTold, SyncsFile, WritesFile, after_cut}
 use Rattle.outside.specs.Disk.{after_write, overwritten}
 use Rattle.outside.specs.Frames.{is_open}
 use Rattle.outside.specs.Outside.{DiskCall, Outside}

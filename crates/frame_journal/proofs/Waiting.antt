@@ -1,6 +1,6 @@
 -- Frames that wait in a group, and those that were written.
 use Rattle.std.proofs.Common.{◌≡◌, ℕ, ◌+◌, ◌≤◌, List, [], ◌∷◌, ◌++◌}
-use Rattle.std.proofs.Common.{length, Option, Some, refl, sym, ap, ◌∙◌, subst, arith}
+use Rattle.std.proofs.Common.{length, Option, refl, sym, ap, ◌∙◌, subst, arith}
 use Rattle.std.proofs.Common.{append_assoc, append-nil, length-append}
 use Rattle.std.specs.Prelude.{OnOk, Result, Ok, Err}
 use Rattle.frame_journal.specs.declared.fault.DiskFault.{DiskFault}
@@ -9,15 +9,15 @@ use Rattle.std.specs.Option.{ForSome}
 use Rattle.std.proofs.lemmas.Grind.{flat_map-append}
 use Rattle.outside.specs.Disk.{RelatesTold}
 use Rattle.outside.specs.Files.{Two, File, file_of}
-use Rattle.outside.specs.Frames.{HasFrames, IsAtRest, end_of, frame_of}
+use Rattle.outside.specs.Frames.{HasFrames, IsAtRest, frame_of}
 use Rattle.outside.proofs.CallSteps.{becomes_map, becomes_none, becomes_then}
-use Rattle.frame_journal.specs.Append.{IsFramed, payload_of}
-use Rattle.frame_journal.specs.Gathering.{AppendsPayloads, Gathered, GathersFrames, WritesPayloads}
+use Rattle.frame_journal.specs.Append.{IsFramed}
+use Rattle.frame_journal.specs.Gathering.{AppendsPayloads, GathersFrames, WritesPayloads}
 use Rattle.frame_journal.specs.Group.{AppendsFrames, IsGroup, IsJoined, flushed, group_len}
 use Rattle.frame_journal.specs.Journal.{JournalValue}
 use Rattle.frame_journal.proofs.ClearSteps.{becomes_new}
 use Rattle.frame_journal.proofs.Framed.{framed_long}
-use Rattle.frame_journal.proofs.GroupSteps.{IsMovedOn, flushed_moved, joined_none, none_joined}
+use Rattle.frame_journal.proofs.GroupSteps.{flushed_moved, joined_none, none_joined}
 
 -- ---- what was written
 

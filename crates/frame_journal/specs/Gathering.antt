@@ -1,5 +1,5 @@
 -- Frames that come to a journal one by one, and are added to it in groups.
-use Rattle.std.specs.Prelude.{◌≡◌, ℕ, ◌+◌, ◌-◌, nat_le, cond, List, ◌++◌, length, Option}
+use Rattle.std.specs.Prelude.{◌≡◌, ℕ, ◌+◌, nat_le, cond, List, ◌++◌, length, Option}
 use Rattle.std.specs.List.{flat_map}
 use Rattle.outside.specs.Disk.{RelatesTold}
 use Rattle.outside.specs.Files.{Two, File, file_of}

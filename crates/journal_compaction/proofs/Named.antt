@@ -5,7 +5,7 @@ use Rattle.std.proofs.Common.{arith, zero, suc}
 use Rattle.std.specs.Prelude.{◌||◌, slice_get}
 use Rattle.std.proofs.lemmas.List.{take_all}
 use Rattle.sync_rules.specs.Consistency.{ids_of_held}
-use Rattle.sync_rules.specs.Facts.{Facts, Held, Id, Row, wanted_from}
+use Rattle.sync_rules.specs.Facts.{Facts, Held, Id, wanted_from}
 use Rattle.sync_rules.specs.Lists.{is_among, same_id}
 use Rattle.sync_rules.proofs.Elements.{same_id_itself}
 use Rattle.entry_codec.specs.Payloads.{names_of}

@@ -1,5 +1,5 @@
 -- The file that is only read, and the other, of which nothing is left behind want of memory.
-use Rattle.std.proofs.Common.{◌≡◌, ℕ, ◌+◌, ◌-◌, ◌<◌, Option, Result, Ok, Err, inl, inr, refl, sym}
+use Rattle.std.proofs.Common.{◌≡◌, ℕ, ◌-◌, ◌<◌, Option, Result, Ok, Err, inl, inr, refl, sym}
 use Rattle.std.proofs.Common.{subst, ◌∙◌}
 use Rattle.outside.specs.Disk.{RelatesTold}
 use Rattle.outside.specs.Files.{Two, File}

@@ -1,14 +1,13 @@
 -- What was written of the other file is taken back.
-use Rattle.std.proofs.Common.{◌≡◌, ℕ, ◌+◌, ◌-◌, ◌<◌, ◌≤◌, false, List, [], ◌∷◌, ◌++◌, Option, None}
+use Rattle.std.proofs.Common.{◌≡◌, ℕ, ◌-◌, ◌<◌, false, List, [], ◌∷◌, Option}
 use Rattle.std.proofs.Common.{Some, Result, Ok, Err, inl, inr, refl, sym, ap, subst, ◌∙◌, arith}
 use Rattle.std.specs.Option.{ForSome}
-use Rattle.std.specs.Prelude.{IsErrOf}
 use Rattle.outside.specs.Disk.{RelatesTold}
 use Rattle.outside.specs.Faults.{CountRose}
 use Rattle.outside.specs.Files.{Two, File, IsFileImage, file_of, settled}
 use Rattle.outside.specs.Frames.{is_open}
 use Rattle.outside.specs.Links.{Links, sent_of}
-use Rattle.outside.specs.Outside.{DiskRun, Moment, MomentsAre, Outside}
+use Rattle.outside.specs.Outside.{DiskRun, MomentsAre, Outside}
 use Rattle.outside.specs.Steps.{FileMoment, other_of}
 use Rattle.outside.proofs.CallSteps.{becomes_none, becomes_then, becomes_told, moments_map}
 use Rattle.outside.proofs.CallSteps.{moments_then}
@@ -17,7 +16,6 @@ use Rattle.frame_journal.specs.Create.{PreparesJournal, StaysClosed}
 use Rattle.frame_journal.specs.Journal.{JournalValue}
 use Rattle.frame_journal.proofs.ClearSteps.{becomes_new}
 use Rattle.frame_journal.proofs.Closed.{closed_settled, leaves_looks, leaves_then}
-use Rattle.frame_journal.proofs.CreateSteps.{not_open}
 use Rattle.sync_rules.specs.declared.entries.Entry.{Entry}
 use Rattle.sync_rules.specs.Clients.{Meaning}
 use Rattle.sync_rules.specs.Facts.{Facts}

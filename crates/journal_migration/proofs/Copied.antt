@@ -7,14 +7,13 @@ use Rattle.std.specs.Option.{ForSome}
 use Rattle.std.proofs.Common.{append-nil, append_assoc}
 use Rattle.std.proofs.lemmas.Bool.{ne_eqb}
 use Rattle.std.proofs.lemmas.Bool.Decides.{nat_tests}
-use Rattle.outside.specs.Disk.{RelatesTold}
 use Rattle.outside.specs.Files.{Two, File, NothingPending, file_of, read_files}
 use Rattle.outside.specs.Frames.{HasFrames, closed, end_of, frame_at, is_open}
 use Rattle.outside.specs.Frames as frames_of
 use Rattle.outside.specs.Links.{sent_of}
 use Rattle.outside.specs.Outside.{OnlyReads, MomentsAre, Outside}
 use Rattle.outside.specs.Steps.{FileMoment, PassedMoments, other_of}
-use Rattle.outside.proofs.CallSteps.{becomes_told, moments_map}
+use Rattle.outside.proofs.CallSteps.{moments_map}
 use Rattle.outside.specs.Frames.{IsAtRest}
 use Rattle.frame_journal.specs.Append.{payload_of}
 use Rattle.frame_journal.specs.Gathering.{Gathered, GathersFrames, WritesPayloads}

@@ -1,5 +1,5 @@
 -- The other file begun, call by call, and taken back.
-use Rattle.std.proofs.Common.{◌≡◌, ℕ, ◌+◌, ◌<◌, false, List, Option, Some, take, sym, ap, subst}
+use Rattle.std.proofs.Common.{◌≡◌, ℕ, ◌<◌, false, Option, Some, take, sym, ap, subst}
 use Rattle.std.proofs.Common.{◌∙◌, inr}
 use Rattle.std.specs.Option.{ForSome}
 use Rattle.outside.specs.Disk.{RelatesTold}

@@ -1,5 +1,5 @@
 -- The file that is only read.
-use Rattle.std.proofs.Common.{◌≡◌, ℕ, ◌+◌, ◌-◌, ◌<◌, Option, Result, Ok, Err, refl, sym, subst, ◌∙◌}
+use Rattle.std.proofs.Common.{◌≡◌, ℕ, ◌-◌, ◌<◌, Option, Result, Err, refl, sym, subst, ◌∙◌}
 use Rattle.outside.specs.Disk.{RelatesTold}
 use Rattle.outside.specs.Files.{Two, File}
 use Rattle.outside.specs.Outside.{OnlyReads, Outside}

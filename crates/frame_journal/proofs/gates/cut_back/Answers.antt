@@ -1,4 +1,3 @@
-use Rattle.std.proofs.Common.{refl}
 use Rattle.frame_journal.proofs.Closed.{back_err, back_ok, cuts_back, leaves_cuts}
 use Rattle.frame_journal.proofs.gates.cut_back.Goals as goal
 

@@ -1,4 +1,4 @@
-use Rattle.std.proofs.Common.{[], ◌∷◌, ap, arith, length, sym, subst}
+use Rattle.std.proofs.Common.{ap, arith, length, sym, subst}
 use Rattle.outside.proofs.CallSteps.{run_then}
 use Rattle.frame_journal.specs.Group.{IsGroup}
 use Rattle.frame_journal.proofs.Waiting.{gathers_long, waits_none}

@@ -1,5 +1,3 @@
-use Rattle.frame_journal.proofs.GroupSteps.{flushed_moved}
-use Rattle.outside.proofs.CallSteps.{looks_none}
 use Rattle.journal_migration.specs.declared.fault.MigrationFault.TheVariants as fault
 use Rattle.journal_migration.proofs.All.{flush_done, flush_failed, gather_failed}
 use Rattle.journal_migration.proofs.Back.{leaves_on}

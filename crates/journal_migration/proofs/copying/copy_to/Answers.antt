@@ -1,4 +1,4 @@
-use Rattle.std.proofs.Common.{◌≡◌, Result, Err, sym, subst}
+use Rattle.std.proofs.Common.{Result, sym, subst}
 use Rattle.journal_migration.specs.Copying.{CopiesAll}
 use Rattle.journal_migration.specs.declared.fault.MigrationFault.{MigrationFault}
 use Rattle.journal_migration.proofs.Back.{copies_elsewhere}

@@ -1,8 +1,6 @@
-use Rattle.std.proofs.Common.{ℕ, refl, subst}
-use Rattle.outside.specs.Disk.{RelatesTold}
-use Rattle.frame_journal.specs.Create.{LeavesClosed}
+use Rattle.std.proofs.Common.{ℕ, subst}
 use Rattle.journal_migration.specs.Starting.{IsTakenBack, StaysShut}
-use Rattle.journal_migration.proofs.Back.{back_cause, back_none, copies_back, leaves_on}
+use Rattle.journal_migration.proofs.Back.{back_none, copies_back, leaves_on}
 use Rattle.journal_migration.proofs.Back.{works_closed}
 use Rattle.journal_migration.proofs.copying.copy_whole.Goals as goal
 

@@ -1,10 +1,10 @@
-use Rattle.std.proofs.Common.{◌≡◌, ℕ, ◌+◌, ◌≤◌, cond, List, [], ◌∷◌, length, sym, ap, subst}
+use Rattle.std.proofs.Common.{◌≡◌, ℕ, ◌≤◌, cond, List, [], ◌∷◌, length, sym, ap, subst}
 use Rattle.std.proofs.Common.{◌∙◌}
 use Rattle.std.specs.Prelude.{◌==◌}
 use Rattle.frame_journal.specs.Append.{framed_of, payload_of}
 use Rattle.frame_journal.specs.Gathering.{GathersFrames}
 use Rattle.frame_journal.specs.Group.{IsGroup}
-use Rattle.frame_journal.proofs.Waiting.{gathers_none, gathers_waits}
+use Rattle.frame_journal.proofs.Waiting.{gathers_waits}
 use Rattle.frame_journal.proofs.Closed.{leaves_none}
 use Rattle.journal_compaction.specs.Paging.{closed_page}
 use Rattle.journal_compaction.proofs.Filling.{closed_some}
