@@ -1,4 +1,5 @@
 mod Audits
+mod Brought
 mod Calm
 mod Gates
 mod Kept
@@ -9,8 +10,8 @@ mod Marks
 mod Named
 mod NumberSets
 mod Parts
-mod Passed
 mod Places
+mod Placing
 mod SessionLists
 mod Sleeps
 mod Plays
@@ -18,6 +19,7 @@ mod Sound
 mod SoundHeld
 mod SoundRows
 mod Sparse
+mod Stands
 mod Steps
 mod Took
 mod WantedLists

@@ -1,9 +1,9 @@
 -- Looks at messages by their numbers.
-use Rattle.std.proofs.Common.{◌≡◌, ℕ, zero, suc, ◌+◌, ◌≤◌, ◌<◌, Bool, true, false, cond, not, ◌&&◌, ◌||◌, nat_le, nat_lt, List, [], ◌∷◌, ◌++◌, drop, length, take, Option, Some, None, refl, sym, ◌∙◌, ap, arith}
+use Rattle.std.proofs.Common.{◌≡◌, ℕ, zero, suc, ◌+◌, ◌≤◌, ◌<◌, Bool, true, false, cond, not, ◌&&◌, ◌||◌, nat_le, List, [], ◌∷◌, ◌++◌, drop, length, take, Option, Some, None, refl, sym, ◌∙◌, ap, arith}
 use Rattle.std.specs.List.{cons_option, slice_get}
 use Rattle.std.specs.List.Sorted.{IsStrictlySortedBy}
 use Rattle.std.specs.Ordering.{nat_cmp}
-use Rattle.std.proofs.lemmas.Bool.{lt-leb, ltb-false, ltb-true, or_parts}
+use Rattle.std.proofs.lemmas.Bool.{and_parts, false≢true, lt-leb}
 use Rattle.std.proofs.lemmas.List.{append_assoc, append-nil, drop_all, take-append-le}
 use Rattle.sync_rules.specs.declared.entries.Mode.{Mode}
 use Rattle.sync_rules.specs.declared.entries.Mode.TheVariants as mode
@@ -12,11 +12,14 @@ use Rattle.sync_rules.specs.Lists.{is_among}
 use Rattle.sync_rules.specs.Sessions.{first_id, ids_where, is_author, is_ripe, is_sendable}
 use Rattle.journal_audit.specs.declared.facts.PlainFacts.{PlainFacts}
 use Rattle.journal_audit.specs.declared.messages.Line.{Line}
+use Rattle.journal_audit.specs.declared.ready.Ready.{Ready}
 use Rattle.journal_audit.specs.Lines.{held_in, held_of}
 use Rattle.journal_audit.specs.Looks.{ids_at, is_line_sendable, is_offered, is_owed, is_sent, picked, seen_of}
-use Rattle.journal_audit.specs.Numbers.{from_of, has, has_for, until_of}
-use Rattle.journal_audit.specs.Plain.{IsPlainSound, facts_of, is_awake, shared_in, shares}
-use Rattle.journal_audit.proofs.Lines.{among_flagged, get_held, own_flag}
+use Rattle.journal_audit.specs.Bringing.{IsBroughtAt}
+use Rattle.journal_audit.specs.Numbers.{from_of, has, has_alarm, has_for}
+use Rattle.journal_audit.specs.Plain.{IsPlainSound, facts_of, shared_in}
+use Rattle.journal_audit.specs.Standing.{may_go, set_for, shares, stands}
+use Rattle.journal_audit.proofs.Lines.{among_flagged, get_held, held_get, own_flag}
 use Rattle.journal_audit.proofs.Sparse.{cons_cond, sparse}
 
 -- ---- one message
@@ -68,15 +71,6 @@ owed_all p contact ns sound few ascends same =
 
 -- ---- from a number on
 
--- what passes a test behind messages that fail it is all that passes
-rest_all : (test : Held → Bool) (held : List Held) (from : ℕ) → ((n : ℕ) (h : Held) → slice_get held n ≡ Some h → n < from → test h ≡ false)
-    → ids_where test (drop from held) ≡ ids_where test held
-rest_all test held zero fail = refl
-rest_all test [] (suc k) fail = refl
-rest_all test (h ∷ hs) (suc k) fail =
-    rest_all test hs k (λ n x at under. fail (suc n) x at (omega (arith, under)))
-    ∙ sym (ap (λ b. cond b (h.id ∷ ids_where test hs) (ids_where test hs)) (fail 0 h refl (omega arith)))
-
 -- the message of a number, and those behind it
 pub ids_from : (test : Held → Bool) (held : List Held) (n : ℕ)
     → ids_where test (drop n held) ≡ cons_option (picked test (slice_get held n)) (ids_where test (drop (suc n) held))
@@ -124,65 +118,87 @@ list_next most test held n o xs ys whole is by same so =
 pub none_from : (test : Held → Bool) (held : List Held) (n : ℕ) → length held ≤ n → ids_where test (drop n held) ≡ []
 none_from test held n beyond = ap (ids_where test) (drop_all n held beyond)
 
--- a message that need not be looked at before a later time is not due
-late : (asked : Bool) (expiry until now : ℕ) → now < until → (asked || nat_lt expiry until) ≡ false → (asked ≡ false) × (nat_le expiry now ≡ false)
-late asked expiry until now sooner none =
-    let parts = or_parts asked (nat_lt expiry until) none in
-    let later : until ≤ expiry = ltb-false expiry until parts.1 in
-    (parts.0, lt-leb expiry now (omega (arith, later, sooner)))
+-- ---- among those that may go
 
-not_due : (a b c d w due : Bool) → (b && (c && w)) ≡ false → (w ≡ false → due ≡ false) → ((a && (b && (c && d))) && due) ≡ false
-not_due false b c d w due none so = refl
-not_due true false c d w due none so = refl
-not_due true true false d w due none so = refl
-not_due true true true d w due none so = ap (λ t. d && t) (so none) ∙ off d where
-  off : (t : Bool) → (t && false) ≡ false
-  off true = refl
-  off false = refl
+goes_by : (a b c d j h : Bool) → (a && (b && (c && (d || (j && h))))) ≡ true → (a && (b && (c && (d || h)))) ≡ true
+goes_by true true true true j h e = refl
+goes_by true true true false true h e = e
+goes_by true true true false false h e = absurd (false≢true e)
+goes_by true true false d j h e = absurd (false≢true e)
+goes_by true false c d j h e = absurd (false≢true e)
+goes_by false b c d j h e = absurd (false≢true e)
 
-ripe_late : (mode : Mode) (now until : ℕ) (r : Row) → now < until → (r.asked || nat_lt r.expiry until) ≡ false → is_ripe mode now r ≡ false
-ripe_late mode.Interactive now until r sooner none = (late r.asked r.expiry until now sooner none).0
-ripe_late mode.Batch now until r sooner none = (late r.asked r.expiry until now sooner none).1
+-- what may be sent may go
+sendable_goes : (p : PlainFacts) (contact n : ℕ) (l : Line) → IsPlainSound p → slice_get p.messages.lines n ≡ Some l
+    → is_sendable (facts_of p) (shared_in p.messages.lines) contact (held_of l) ≡ true → may_go p.levels contact l (row_at p.rows contact l.id) ≡ true
+sendable_goes p contact n l sound at sendable =
+    goes_by l.delivered (is_level_shared (level_at p.levels contact l.message.group)) (not (row_at p.rows contact l.id).seen) (is_author l.origin) l.judged (shares l.answer)
+    (sendable_line p contact n l sound at ∙ sendable)
 
-offer_late : (now until : ℕ) (r : Row) → now < until → (r.asked || nat_lt r.expiry until) ≡ false → (not r.asked && nat_le r.expiry now) ≡ false
-offer_late now until r sooner none =
-    let parts = late r.asked r.expiry until now sooner none in
-    λ i. not (parts.0 i) && parts.1 i
+-- none is left behind the end
+none_behind : (ds : List ℕ) (k n : ℕ) → k ≡ length ds → has (drop k ds) n ≡ false
+none_behind ds k n all = ap (λ (t : List ℕ). has t n) (drop_all k ds (omega (arith, all)))
 
--- below where a contact is served from at this time nothing is due
-below : (p : PlainFacts) (contact now from n : ℕ) (h : Held) → IsPlainSound p
-    → from ≡ cond (nat_lt now (until_of p.cursors contact)) (from_of p.cursors contact) 0 → slice_get (held_in p.messages.lines) n ≡ Some h → n < from
-    → (now < until_of p.cursors contact) × (is_awake p.levels p.rows contact (until_of p.cursors contact) h ≡ false)
-below p contact now from n h sound is at under = by (nat_lt now (until_of p.cursors contact)) refl where
-  by : (b : Bool) → nat_lt now (until_of p.cursors contact) ≡ b
-      → (now < until_of p.cursors contact) × (is_awake p.levels p.rows contact (until_of p.cursors contact) h ≡ false)
-  by true e =
-      let same : from ≡ from_of p.cursors contact = is ∙ ap (λ b. cond b (from_of p.cursors contact) 0) e in
-      (ltb-true now (until_of p.cursors contact) e, sound.sleeps contact n h at (omega (arith, same, under)))
-  by false e =
-      let none : from ≡ 0 = is ∙ ap (λ b. cond b (from_of p.cursors contact) 0) e in
-      absurd (omega (arith, none, under))
+-- where all was brought, what may be sent stands where it belongs
+stands_brought : (p : PlainFacts) (contact now n : ℕ) (l : Line) → IsPlainSound p → contact < 256 → IsBroughtAt p contact now → slice_get p.messages.lines n ≡ Some l
+    → is_sendable (facts_of p) (shared_in p.messages.lines) contact (held_of l) ≡ true → stands p.ready contact n (row_at p.rows contact l.id) ≡ true
+stands_brought p contact now n l sound few brought at sendable =
+    sound.stand contact n l few at (none_behind p.messages.delivered (from_of p.ready.cursors contact) n brought.all) (sendable_goes p contact n l sound at sendable)
 
-pub sent_all : (p : PlainFacts) (contact : ℕ) (mode : Mode) (now from : ℕ) → IsPlainSound p
-    → from ≡ cond (nat_lt now (until_of p.cursors contact)) (from_of p.cursors contact) 0
-    → ids_where (is_sent (seen_of p) contact mode now) (drop from (held_in p.messages.lines)) ≡ ids_where (is_sent (seen_of p) contact mode now) (held_in p.messages.lines)
-sent_all p contact mode now from sound is =
-    rest_all (is_sent (seen_of p) contact mode now) (held_in p.messages.lines) from
-    (λ n h at under.
-    let far = below p contact now from n h sound is at under in
-    let row = row_at p.rows contact h.id in
-    not_due (is_among (facts_of p).delivered h.id) (is_level_shared (level_at p.levels contact h.message.group)) (not row.seen)
-    (is_author h.origin || is_among (shared_in p.messages.lines) h.id) (row.asked || nat_lt row.expiry (until_of p.cursors contact)) (is_ripe mode now row) far.1
-    (ripe_late mode now (until_of p.cursors contact) row far.0))
+-- one that was asked for is in the set
+asked_in : (ready : Ready) (contact n : ℕ) (r : Row) → stands ready contact n r ≡ true → r.asked ≡ true → has_for ready.asked contact n ≡ false → ⊥
+asked_in ready contact n r standing asked out =
+    let first = (and_parts (not r.asked || has_for ready.asked contact n) (has_for ready.awake contact n || has_alarm ready.alarms contact r.expiry n) standing).0 in
+    false≢true (sym (λ i. not (asked i) || out i) ∙ first)
 
-pub offered_all : (p : PlainFacts) (contact now from : ℕ) → IsPlainSound p
-    → from ≡ cond (nat_lt now (until_of p.cursors contact)) (from_of p.cursors contact) 0
-    → ids_where (is_offered (seen_of p) contact now) (drop from (held_in p.messages.lines)) ≡ ids_where (is_offered (seen_of p) contact now) (held_in p.messages.lines)
-offered_all p contact now from sound is =
-    rest_all (is_offered (seen_of p) contact now) (held_in p.messages.lines) from
-    (λ n h at under.
-    let far = below p contact now from n h sound is at under in
-    let row = row_at p.rows contact h.id in
-    not_due (is_among (facts_of p).delivered h.id) (is_level_shared (level_at p.levels contact h.message.group)) (not row.seen)
-    (is_author h.origin || is_among (shared_in p.messages.lines) h.id) (row.asked || nat_lt row.expiry (until_of p.cursors contact))
-    (not row.asked && nat_le row.expiry now) far.1 (offer_late now (until_of p.cursors contact) row far.0))
+-- one whose time has come is in the set
+awake_in : (ready : Ready) (contact now n : ℕ) (r : Row) → ((t m : ℕ) → has_alarm ready.alarms contact t m ≡ true → now < t) → stands ready contact n r ≡ true
+    → nat_le r.expiry now ≡ true → has_for ready.awake contact n ≡ false → ⊥
+awake_in ready contact now n r ahead standing timely out =
+    let second = (and_parts (not r.asked || has_for ready.asked contact n) (has_for ready.awake contact n || has_alarm ready.alarms contact r.expiry n) standing).1 in
+    let later : now < r.expiry = ahead r.expiry n (sym (ap (λ b. b || has_alarm ready.alarms contact r.expiry n) out) ∙ second) in
+    false≢true (sym (lt-leb r.expiry now later) ∙ timely)
+
+not_true : (b : Bool) → (b ≡ true → ⊥) → b ≡ false
+not_true true none = absurd (none refl)
+not_true false none = refl
+
+sent_in : (p : PlainFacts) (contact : ℕ) (m : Mode) (now n : ℕ) (l : Line) → IsPlainSound p → contact < 256 → IsBroughtAt p contact now → slice_get p.messages.lines n ≡ Some l
+    → has_for (set_for p.ready m) contact n ≡ false → is_sent (seen_of p) contact m now (held_of l) ≡ true → ⊥
+sent_in p contact mode.Interactive now n l sound few brought at out sent =
+    let row = row_at p.rows contact l.id in
+    let both = and_parts (is_sendable (facts_of p) (shared_in p.messages.lines) contact (held_of l)) row.asked sent in
+    asked_in p.ready contact n row (stands_brought p contact now n l sound few brought at both.0) both.1 out
+sent_in p contact mode.Batch now n l sound few brought at out sent =
+    let row = row_at p.rows contact l.id in
+    let both = and_parts (is_sendable (facts_of p) (shared_in p.messages.lines) contact (held_of l)) (nat_le row.expiry now) sent in
+    awake_in p.ready contact now n row brought.ahead (stands_brought p contact now n l sound few brought at both.0) both.1 out
+
+offered_in : (p : PlainFacts) (contact now n : ℕ) (l : Line) → IsPlainSound p → contact < 256 → IsBroughtAt p contact now → slice_get p.messages.lines n ≡ Some l
+    → has_for p.ready.awake contact n ≡ false → is_offered (seen_of p) contact now (held_of l) ≡ true → ⊥
+offered_in p contact now n l sound few brought at out offered =
+    let row = row_at p.rows contact l.id in
+    let both = and_parts (is_sendable (facts_of p) (shared_in p.messages.lines) contact (held_of l)) (not row.asked && nat_le row.expiry now) offered in
+    awake_in p.ready contact now n row brought.ahead (stands_brought p contact now n l sound few brought at both.0)
+    (and_parts (not row.asked) (nat_le row.expiry now) both.1).1 out
+
+-- what is picked among a set is what is picked of all, where all was brought
+pub sent_among : (p : PlainFacts) (contact : ℕ) (m : Mode) (now : ℕ) (ns : List ℕ) → IsPlainSound p → contact < 256 → IsBroughtAt p contact now → IsStrictlySortedBy nat_cmp ns
+    → ((n : ℕ) → has ns n ≡ has_for (set_for p.ready m) contact n)
+    → ids_at (is_sent (seen_of p) contact m now) (held_in p.messages.lines) ns ≡ ids_where (is_sent (seen_of p) contact m now) (held_in p.messages.lines)
+sent_among p contact m now ns sound few brought ascends same =
+    sparse (is_sent (seen_of p) contact m now) (held_in p.messages.lines) ns ascends
+    (λ n h at out.
+    let line = held_get p.messages.lines n h at in
+    ap (is_sent (seen_of p) contact m now) line.is
+    ∙ not_true (is_sent (seen_of p) contact m now (held_of line.line)) (sent_in p contact m now n line.line sound few brought line.at (sym (same n) ∙ out)))
+
+pub offered_among : (p : PlainFacts) (contact now : ℕ) (ns : List ℕ) → IsPlainSound p → contact < 256 → IsBroughtAt p contact now → IsStrictlySortedBy nat_cmp ns
+    → ((n : ℕ) → has ns n ≡ has_for p.ready.awake contact n)
+    → ids_at (is_offered (seen_of p) contact now) (held_in p.messages.lines) ns ≡ ids_where (is_offered (seen_of p) contact now) (held_in p.messages.lines)
+offered_among p contact now ns sound few brought ascends same =
+    sparse (is_offered (seen_of p) contact now) (held_in p.messages.lines) ns ascends
+    (λ n h at out.
+    let line = held_get p.messages.lines n h at in
+    ap (is_offered (seen_of p) contact now) line.is
+    ∙ not_true (is_offered (seen_of p) contact now (held_of line.line)) (offered_in p contact now n line.line sound few brought line.at (sym (same n) ∙ out)))

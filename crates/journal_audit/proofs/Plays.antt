@@ -34,7 +34,8 @@ use Rattle.journal_audit.specs.declared.facts.PlainFacts.{PlainFacts}
 use Rattle.journal_audit.specs.declared.messages.Line.{Line}
 use Rattle.journal_audit.specs.Changes.{BecomesKnown, MayTakeEntry, FitsOut}
 use Rattle.journal_audit.specs.Lines.{held_in, held_of, ids_flagged}
-use Rattle.journal_audit.specs.Plain.{IsPlainSound, KnowsMeanings, facts_of, shared_in, shares}
+use Rattle.journal_audit.specs.Plain.{IsPlainSound, KnowsMeanings, facts_of, shared_in}
+use Rattle.journal_audit.specs.Standing.{shares}
 use Rattle.journal_audit.specs.Playing.{AllFit, IsOfLegal, all_go, goes}
 use Rattle.journal_audit.proofs.Lines.{flagged_is, own_flag}
 use Rattle.journal_audit.proofs.Steps.{known_at}

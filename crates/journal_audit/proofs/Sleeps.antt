@@ -264,7 +264,7 @@ woken_none kept id number old on n out =
 
 -- ---- laying down
 
-has_push : (ns : List ℕ) (k n : ℕ) → has (ns ++ k ∷ []) n ≡ (nat_eq k n || has ns n)
+pub has_push : (ns : List ℕ) (k n : ℕ) → has (ns ++ k ∷ []) n ≡ (nat_eq k n || has ns n)
 has_push [] k n = refl
 has_push (x ∷ ns) k n = ap (λ b. nat_eq x n || b) (has_push ns k n) ∙ by (nat_eq x n) (nat_eq k n) (has ns n) where
   by : (a b c : Bool) → (a || (b || c)) ≡ (b || (a || c))

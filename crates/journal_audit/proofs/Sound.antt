@@ -1,8 +1,8 @@
 -- What holds of plain facts stays so, entry by entry.
-use Rattle.std.proofs.Common.{◌≡◌, ℕ, ◌+◌, ◌<◌, ◌≤◌, Bool, true, false, not, cond, ◌&&◌, ◌||◌}
+use Rattle.std.proofs.Common.{◌≡◌, ℕ, ◌+◌, ◌<◌, ◌≤◌, Bool, true, false, cond, ◌&&◌}
 use Rattle.std.proofs.Common.{Option, unwrap_or}
-use Rattle.std.proofs.Common.{List, [], ◌∷◌, ◌++◌, length, Some, None, refl, sym, ◌∙◌, ap, subst, arith}
-use Rattle.std.proofs.Common.{is_some, nat_eq, nat_lt, eqb-true}
+use Rattle.std.proofs.Common.{List, [], ◌∷◌, ◌++◌, Some, None, refl, sym, ◌∙◌, ap, subst, arith}
+use Rattle.std.proofs.Common.{is_some, nat_eq, eqb-true}
 use Rattle.std.specs.FinMap as fin_map
 use Rattle.std.specs.List.{slice_get}
 use Rattle.std.proofs.lemmas.Bool.{and_from, and_parts, false≢true}
@@ -10,17 +10,19 @@ use Rattle.sync_rules.specs.declared.entries.Level.{Level}
 use Rattle.sync_rules.specs.declared.entries.Level.TheVariants as level
 use Rattle.sync_rules.specs.Facts.{Held, Id, Known, LevelMap, Rows, group_at, is_invisible, Row}
 use Rattle.sync_rules.specs.Facts.{no_row}
-use Rattle.sync_rules.specs.Facts.{is_level_shared, level_at, pair_cmp, put_level, row_at}
+use Rattle.sync_rules.specs.Facts.{level_at, pair_cmp, put_level, row_at}
 use Rattle.sync_rules.specs.Lists.{same_id}
 use Rattle.sync_rules.proofs.Elements.{same_id-is}
 use Rattle.sync_rules.proofs.ScanLaws.{level_at_set}
 use Rattle.sync_rules.proofs.Sound.{group_at-push}
 use Rattle.journal_audit.specs.declared.messages.Line.{Line}
+use Rattle.journal_audit.specs.declared.ready.Ready.{Ready}
 use Rattle.journal_audit.specs.Lines.{Kept, held_in}
-use Rattle.journal_audit.specs.Numbers.{CursorLists, from_of, until_of}
-use Rattle.journal_audit.specs.Plain.{AreGrouped, AreSound, OwesAcks, is_awake}
+use Rattle.journal_audit.specs.Numbers.{CursorList, from_of}
+use Rattle.journal_audit.specs.Plain.{AreGrouped, AreSound, OwesAcks}
 use Rattle.journal_audit.specs.Sleeping.{SleeperLists}
 use Rattle.journal_audit.proofs.Kept.{lines_none}
+use Rattle.journal_audit.proofs.Stands.{stand_level, within_set}
 
 -- ---- tests
 
@@ -33,9 +35,9 @@ not_true false h = refl
 
 -- ---- nothing
 
-pub sound_none : (groups : List Known) (levels : LevelMap) (kept : Kept) (rows : Rows) (waiting : List ℕ) (sleepers : SleeperLists) (owed : List (List ℕ)) (cursors : CursorLists)
-    → levels ≡ fin_map.empty → kept.lines ≡ [] → kept.delivered ≡ [] → rows ≡ fin_map.empty → ((contact : ℕ) → from_of cursors contact ≡ 0) → AreSound 0 groups levels kept rows waiting sleepers owed cursors
-sound_none groups levels kept rows waiting sleepers owed cursors no_levels no_lines no_delivered no_rows no_cursor =
+pub sound_none : (groups : List Known) (levels : LevelMap) (kept : Kept) (rows : Rows) (waiting : List ℕ) (sleepers : SleeperLists) (owed : List (List ℕ)) (ready : Ready)
+    → levels ≡ fin_map.empty → kept.lines ≡ [] → kept.delivered ≡ [] → rows ≡ fin_map.empty → ((contact : ℕ) → from_of ready.cursors contact ≡ 0) → AreSound 0 groups levels kept rows waiting sleepers owed ready
+sound_none groups levels kept rows waiting sleepers owed ready no_levels no_lines no_delivered no_rows no_cursor =
     let R : List Line → Type 0 = λ ls. AreGrouped groups (held_in ls) in
     let O : List Line → Type 0 = λ ls. OwesAcks (held_in ls) rows owed in
     record {
@@ -50,7 +52,7 @@ sound_none groups levels kept rows waiting sleepers owed cursors no_levels no_li
           ∙ ap (λ (o : Option Row). unwrap_or o no_row) (fin_map.get-empty pair_cmp (contact, id));
       waits = λ n l at. let wrong : None ≡ Some l = ap (λ (ls : List Line). slice_get ls n) (sym no_lines) ∙ at in cc;
       owes = subst O (sym no_lines) (λ contact n h below at. cc);
-      sleeps = λ contact n h at below. let none = no_cursor contact in absurd (omega (arith, none, below));
+      stand = λ contact n l few at. let wrong : None ≡ Some l = ap (λ (ls : List Line). slice_get ls n) (sym no_lines) ∙ at in cc;
       within = λ contact. let none = no_cursor contact in omega (arith, none);
     }
   where
@@ -59,11 +61,11 @@ sound_none groups levels kept rows waiting sleepers owed cursors no_levels no_li
         ∙ ap (λ (o : Option Level). unwrap_or o level.Invisible)
         (fin_map.get-empty pair_cmp (contact, group))
 
-module _ (contacts : ℕ) (groups : List Known) (levels : LevelMap) (kept : Kept) (rows : Rows) (waiting : List ℕ) (sleepers : SleeperLists) (owed : List (List ℕ)) (cursors : CursorLists)
-    (s : AreSound contacts groups levels kept rows waiting sleepers owed cursors) where
+module _ (contacts : ℕ) (groups : List Known) (levels : LevelMap) (kept : Kept) (rows : Rows) (waiting : List ℕ) (sleepers : SleeperLists) (owed : List (List ℕ)) (ready : Ready)
+    (s : AreSound contacts groups levels kept rows waiting sleepers owed ready) where
   -- ---- contacts, groups and levels
 
-  pub sound_contact : contacts < 256 → AreSound (contacts + 1) groups levels kept rows waiting sleepers owed cursors
+  pub sound_contact : contacts < 256 → AreSound (contacts + 1) groups levels kept rows waiting sleepers owed ready
   sound_contact below = record {
     lines = s.lines;
     levels_fit = record {
@@ -75,7 +77,7 @@ module _ (contacts : ℕ) (groups : List Known) (levels : LevelMap) (kept : Kept
     rows_fit = s.rows_fit;
     waits = s.waits;
     owes = s.owes;
-    sleeps = s.sleeps;
+    stand = s.stand;
     within = s.within;
   }
 
@@ -85,9 +87,9 @@ module _ (contacts : ℕ) (groups : List Known) (levels : LevelMap) (kept : Kept
       let parts = and_parts (is_some (group_at groups h.message.group)) _ all in
       and_from (is_some (group_at (groups ++ x ∷ []) h.message.group)) _ (ap is_some (group_at-push groups x h.message.group parts.0) ∙ parts.0) (grouped_more x hs parts.1)
 
-  pub sound_group : (x : Known) (groups' : List Known) → groups' ≡ groups ++ x ∷ [] → AreSound contacts groups' levels kept rows waiting sleepers owed cursors
+  pub sound_group : (x : Known) (groups' : List Known) → groups' ≡ groups ++ x ∷ [] → AreSound contacts groups' levels kept rows waiting sleepers owed ready
   sound_group x groups' more =
-      let At : List Known → Type 0 = λ gs. AreSound contacts gs levels kept rows waiting sleepers owed cursors in
+      let At : List Known → Type 0 = λ gs. AreSound contacts gs levels kept rows waiting sleepers owed ready in
       subst At (sym more)
       (record {
         lines = s.lines;
@@ -100,22 +102,22 @@ module _ (contacts : ℕ) (groups : List Known) (levels : LevelMap) (kept : Kept
         rows_fit = s.rows_fit;
         waits = s.waits;
         owes = s.owes;
-        sleeps = s.sleeps;
+        stand = s.stand;
         within = s.within;
       })
 
-  pub sound_level : (c : ℕ) (g : Id) (l : Level) (levels' : LevelMap) (cursors' : CursorLists) → c < contacts → is_some (group_at groups g) ≡ true → levels' ≡ put_level levels (c, g) l
-      → ((x : ℕ) → from_of cursors' x ≡ cond (nat_eq x c) 0 (from_of cursors x)) → ((x : ℕ) → until_of cursors' x ≡ cond (nat_eq x c) 0 (until_of cursors x))
-      → AreSound contacts groups levels' kept rows waiting sleepers owed cursors'
-  sound_level c g l levels' cursors' below known put from_is until_is = record {
+  pub sound_level : (c : ℕ) (g : Id) (l : Level) (levels' : LevelMap) (cursors' : CursorList) → c < contacts → is_some (group_at groups g) ≡ true → levels' ≡ put_level levels (c, g) l
+      → ((x : ℕ) → from_of cursors' x ≡ cond (nat_eq x c) 0 (from_of ready.cursors x))
+      → AreSound contacts groups levels' kept rows waiting sleepers owed (record ready { cursors = cursors' })
+  sound_level c g l levels' cursors' below known put from_is = record {
     lines = s.lines;
     levels_fit = record { few = s.levels_fit.few; shown = λ x group. shown x group _ refl; hidden = λ x group beyond. hidden x group beyond };
     grouped = s.grouped;
     rows_fit = s.rows_fit;
     waits = s.waits;
     owes = s.owes;
-    sleeps = λ x m h at under. sleeps x m h at under (nat_eq x c) refl;
-    within = λ x. within x (nat_eq x c) refl;
+    stand = stand_level levels levels' kept rows ready cursors' c s.lines s.stand others from_is;
+    within = within_set kept ready cursors' c 0 s.within (omega arith) from_is;
   }
     where
       is : (x : ℕ) (group : Id) → level_at levels' x group ≡ cond (nat_eq x c && same_id group g) l (level_at levels x group)
@@ -130,22 +132,6 @@ module _ (contacts : ℕ) (groups : List Known) (levels : LevelMap) (kept : Kept
           let other : nat_eq x c ≡ false = not_true (nat_eq x c) (λ e. let same : x ≡ c = eqb-true x c e in absurd (omega (arith, below, beyond, same))) in
           is x group ∙ ap (λ b. cond (b && same_id group g) l (level_at levels x group)) other ∙ s.levels_fit.hidden x group beyond
 
-      -- the contact begins anew, and nothing is changed for another
-      from_now : (x : ℕ) (b : Bool) → nat_eq x c ≡ b → from_of cursors' x ≡ cond b 0 (from_of cursors x)
-      from_now x b e = from_is x ∙ ap (λ t. cond t 0 (from_of cursors x)) e
-
-      within : (x : ℕ) (b : Bool) → nat_eq x c ≡ b → from_of cursors' x ≤ length kept.lines
-      within x true e = let none = from_now x true e in omega (arith, none)
-      within x false e = let same = from_now x false e in let old = s.within x in omega (arith, same, old)
-
-      sleeps : (x m : ℕ) (h : Held) → slice_get (held_in kept.lines) m ≡ Some h → m < from_of cursors' x → (b : Bool) → nat_eq x c ≡ b
-          → is_awake levels' rows x (until_of cursors' x) h ≡ false
-      sleeps x m h at under true e = let none = from_now x true e in absurd (omega (arith, none, under))
-      sleeps x m h at under false e =
-          let same = from_now x false e in
-          let was : m < from_of cursors x = omega (arith, same, under) in
-          let level_same : level_at levels' x h.message.group ≡ level_at levels x h.message.group =
-          is x h.message.group ∙ ap (λ b. cond (b && same_id h.message.group g) l (level_at levels x h.message.group)) e in
-          let until_same : until_of cursors' x ≡ until_of cursors x = until_is x ∙ ap (λ t. cond t 0 (until_of cursors x)) e in
-          (λ i. is_level_shared (level_same i)
-          && (not (row_at rows x h.id).seen && ((row_at rows x h.id).asked || nat_lt (row_at rows x h.id).expiry (until_same i)))) ∙ s.sleeps x m h at was
+      -- nothing is changed for another contact
+      others : (x : ℕ) (group : Id) → nat_eq x c ≡ false → level_at levels' x group ≡ level_at levels x group
+      others x group e = is x group ∙ ap (λ b. cond (b && same_id group g) l (level_at levels x group)) e

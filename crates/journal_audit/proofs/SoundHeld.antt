@@ -1,21 +1,23 @@
 -- What holds of plain facts stays so when a message is held, and when something becomes of one.
-use Rattle.std.proofs.Common.{◌≡◌, ℕ, ◌+◌, ◌⊎◌, Bool, true, false, cond, ◌&&◌, ◌||◌, List, [], ◌∷◌, ◌++◌, length, Option, Some, None, refl, sym, ◌∙◌, ap, subst, inl, inr, arith, is_some, nat_eq, eq-eqb, eqb-true}
+use Rattle.std.proofs.Common.{◌≡◌, ℕ, ◌⊎◌, Bool, true, false, cond, ◌&&◌, ◌||◌, List, [], ◌∷◌, ◌++◌, length, Option, Some, None, refl, sym, ◌∙◌, ap, subst, inl, inr, is_some, nat_eq, eq-eqb, eqb-true}
 use Rattle.std.specs.List.{slice_get}
 use Rattle.std.proofs.lemmas.Bool.{and_from, and_parts, false≢true, or_right}
-use Rattle.std.proofs.lemmas.List.{length-append, length-map}
 use Rattle.std.proofs.lemmas.Option.{slice_get_within}
 use Rattle.sync_rules.specs.Facts.{Facts, Held, Id, Known, LevelMap, Row, Rows, group_at, held_at, is_held, row_at}
 use Rattle.sync_rules.specs.Steps.{step_open}
 use Rattle.sync_rules.proofs.Sound.{held_at-push}
 use Rattle.journal_audit.specs.declared.messages.Line.{Line}
+use Rattle.journal_audit.specs.declared.ready.Ready.{Ready}
 use Rattle.journal_audit.specs.Lines.{AreLines, Kept, delivered_line, held_in, held_of, invalid_line, judged_line, line_changed}
-use Rattle.journal_audit.specs.Numbers.{CursorLists, has}
-use Rattle.journal_audit.specs.Plain.{AreGrouped, AreSound, HasPlainRows, OwesAcks, SleepsBelowCursor}
+use Rattle.journal_audit.specs.Numbers.{has}
+use Rattle.journal_audit.specs.Plain.{AreGrouped, AreSound, HasPlainRows, OwesAcks}
 use Rattle.journal_audit.specs.Sleeping.{AreWoken, IsAtRest, LaysDown, SleeperLists, WaitsOrRests, is_under, sleeps_on}
+use Rattle.journal_audit.specs.Standing.{AreStanding, AreWithin}
 use Rattle.journal_audit.proofs.Kept.{lines_changed, lines_delivered, lines_push}
 use Rattle.journal_audit.proofs.Lines.{WasLine, held_get, get_held, old_or_new, same_held, was_line}
 use Rattle.journal_audit.proofs.Places.{held_push}
 use Rattle.journal_audit.proofs.Sleeps.{DiffersAt, differs_delivered, differs_held, differs_invalid, rests_on, steps_judged}
+use Rattle.journal_audit.proofs.Stands.{stand_changed, stand_delivered, stand_held, within_delivered, within_same}
 
 never : (b : Bool) → b ≡ true → b ≡ false → ⊥
 never b holds fails = false≢true (sym fails ∙ holds)
@@ -51,8 +53,8 @@ still_held hs h id none = by (held_at hs id) refl where
   by None e = ap is_some e
   by (Some x) e = absurd (never (is_held (hs ++ h ∷ []) id) (ap is_some (held_at-push hs h id x e)) none)
 
-module _ (contacts : ℕ) (groups : List Known) (levels : LevelMap) (kept : Kept) (rows : Rows) (waiting : List ℕ) (sleepers : SleeperLists) (owed : List (List ℕ)) (cursors : CursorLists)
-    (s : AreSound contacts groups levels kept rows waiting sleepers owed cursors) where
+module _ (contacts : ℕ) (groups : List Known) (levels : LevelMap) (kept : Kept) (rows : Rows) (waiting : List ℕ) (sleepers : SleeperLists) (owed : List (List ℕ)) (ready : Ready)
+    (s : AreSound contacts groups levels kept rows waiting sleepers owed ready) where
   -- ---- one message more
 
   module _ (kept' : Kept) (waiting' : List ℕ) (l : Line) (more : kept'.lines ≡ kept.lines ++ l ∷ []) (same : kept'.delivered ≡ kept.delivered)
@@ -87,17 +89,7 @@ module _ (contacts : ℕ) (groups : List Known) (levels : LevelMap) (kept : Kept
           | inr both ↦ ap (λ (k : Held). (row_at rows c k.id).owed) both.1 ∙ ap (λ (r : Row). r.owed) (s.rows_fit c l.id new)
         ]
 
-    sleeps : SleepsBelowCursor (held_in kept'.lines) levels rows cursors
-    sleeps c m h at under =
-        elim (was m h at) [
-          | inl old ↦ s.sleeps c m h old under
-          | inr both ↦ let last : m ≡ length kept.lines = both.0 in let most = s.within c in absurd (omega (arith, last, most, under))
-        ]
-
-    longer : length kept'.lines ≡ length kept.lines + 1
-    longer = ap length more ∙ length-append kept.lines (l ∷ [])
-
-    pub sound_held : AreSound contacts groups levels kept' rows waiting' sleepers owed cursors
+    pub sound_held : AreSound contacts groups levels kept' rows waiting' sleepers owed ready
     sound_held = record {
       lines = lines_push kept kept' l s.lines more same new undelivered;
       levels_fit = s.levels_fit;
@@ -105,19 +97,17 @@ module _ (contacts : ℕ) (groups : List Known) (levels : LevelMap) (kept : Kept
       rows_fit = λ c id none. s.rows_fit c id (still_held (held_in kept.lines) (held_of l) id (ap (λ hs. is_held hs id) (sym held_more) ∙ none));
       waits = waits;
       owes = owes;
-      sleeps = sleeps;
-      within = λ c. let most = s.within c in let more_is = longer in omega (arith, most, more_is);
+      stand = stand_held levels kept kept' rows ready l s.stand more same undelivered;
+      within = within_same kept kept' ready s.within same;
     }
 
   -- ---- what became of a message
 
   changed_so : (change : Line → Line) → ((l : Line) → held_of (change l) ≡ held_of l) → (kept' : Kept) (n : ℕ) (waiting' : List ℕ) (sleepers' : SleeperLists)
-      → kept'.lines ≡ line_changed change n kept.lines → AreLines kept' → WaitsOrRests kept' waiting' sleepers'
-      → AreSound contacts groups levels kept' rows waiting' sleepers' owed cursors
-  changed_so change held kept' n waiting' sleepers' changed lines waits =
+      → kept'.lines ≡ line_changed change n kept.lines → AreLines kept' → WaitsOrRests kept' waiting' sleepers' → AreStanding levels kept' rows ready → AreWithin kept' ready
+      → AreSound contacts groups levels kept' rows waiting' sleepers' owed ready
+  changed_so change held kept' n waiting' sleepers' changed lines waits stand within =
       let hs : held_in kept'.lines ≡ held_in kept.lines = ap held_in changed ∙ same_held change held n kept.lines in
-      let same_length : length kept'.lines ≡ length kept.lines =
-      sym (length-map kept'.lines held_of) ∙ (ap length hs ∙ length-map kept.lines held_of) in
       record {
         lines = lines;
         levels_fit = s.levels_fit;
@@ -125,17 +115,18 @@ module _ (contacts : ℕ) (groups : List Known) (levels : LevelMap) (kept : Kept
         rows_fit = subst (λ k. HasPlainRows k rows) (sym hs) s.rows_fit;
         waits = waits;
         owes = subst (λ k. OwesAcks k rows owed) (sym hs) s.owes;
-        sleeps = subst (λ k. SleepsBelowCursor k levels rows cursors) (sym hs) s.sleeps;
-        within = λ c. let most = s.within c in let long = same_length in omega (arith, most, long);
+        stand = stand;
+        within = within;
       }
 
   pub lines_judged : (kept' : Kept) (n : ℕ) → kept'.lines ≡ line_changed judged_line n kept.lines → kept'.delivered ≡ kept.delivered → AreLines kept'
   lines_judged kept' n changed same = lines_changed judged_line (λ l. refl) (λ l. refl) kept kept' n s.lines changed same
 
   pub sound_judged : (kept' : Kept) (n : ℕ) (waiting' : List ℕ) (sleepers' : SleeperLists) → kept'.lines ≡ line_changed judged_line n kept.lines → kept'.delivered ≡ kept.delivered
-      → LaysDown kept' waiting waiting' sleepers sleepers' → AreSound contacts groups levels kept' rows waiting' sleepers' owed cursors
+      → LaysDown kept' waiting waiting' sleepers sleepers' → AreSound contacts groups levels kept' rows waiting' sleepers' owed ready
   sound_judged kept' n waiting' sleepers' changed same lays =
       changed_so judged_line (λ l. refl) kept' n waiting' sleepers' changed (lines_judged kept' n changed same) waits
+      (stand_changed judged_line levels kept kept' rows ready n (λ c m l stands. stands) s.stand changed same) (within_same kept kept' ready s.within same)
     where
       now : (b : Line) → IsAtRest kept sleepers n b → IsAtRest kept' sleepers' n (judged_line b)
       now b rest = record {
@@ -173,11 +164,12 @@ module _ (contacts : ℕ) (groups : List Known) (levels : LevelMap) (kept : Kept
   -- a message that ends waits no more, if it was judged; and those are woken that sleep under it
   ended_so : (change : Line → Line) → ((l : Line) → held_of (change l) ≡ held_of l) → ((l : Line) → (change l).judged ≡ l.judged)
       → ((l : Line) → ((change l).delivered || (change l).invalid) ≡ true) → (kept' : Kept) (n : ℕ) (l : Line) (waiting' : List ℕ) → slice_get kept.lines n ≡ Some l
-      → kept'.lines ≡ line_changed change n kept.lines → AreLines kept' → DiffersAt kept kept' l.id
+      → kept'.lines ≡ line_changed change n kept.lines → AreLines kept' → DiffersAt kept kept' l.id → AreStanding levels kept' rows ready → AreWithin kept' ready
       → ((m : ℕ) → has waiting' m ≡ false
       → (cond (nat_eq m n && l.judged) false (has waiting m) ≡ false) × (is_under sleepers l.id m ≡ true → sleeps_on kept' l.id (slice_get kept'.lines m) ≡ true))
-      → AreSound contacts groups levels kept' rows waiting' sleepers owed cursors
-  ended_so change held judged ends kept' n l waiting' here changed lines differs stops = changed_so change held kept' n waiting' sleepers changed lines waits
+      → AreSound contacts groups levels kept' rows waiting' sleepers owed ready
+  ended_so change held judged ends kept' n l waiting' here changed lines differs stand within stops =
+      changed_so change held kept' n waiting' sleepers changed lines waits stand within
     where
       still : (m : ℕ) (b : Line) → slice_get kept.lines m ≡ Some b → (nat_eq m n && l.judged) ≡ false → has waiting' m ≡ false → IsAtRest kept sleepers m b
       still m b at apart out = s.waits m b at (sym (ap (λ t. cond t false (has waiting m)) apart) ∙ (stops m out).0)
@@ -223,10 +215,11 @@ module _ (contacts : ℕ) (groups : List Known) (levels : LevelMap) (kept : Kept
       → kept'.delivered ≡ kept.delivered
       → ((m : ℕ) → has waiting' m ≡ false
       → (cond (nat_eq m n && l.judged) false (has waiting m) ≡ false) × (is_under sleepers l.id m ≡ true → sleeps_on kept' l.id (slice_get kept'.lines m) ≡ true))
-      → AreSound contacts groups levels kept' rows waiting' sleepers owed cursors
+      → AreSound contacts groups levels kept' rows waiting' sleepers owed ready
   sound_refused kept' n l waiting' here changed same stops =
       ended_so invalid_line (λ x. refl) (λ x. refl) invalid_ends kept' n l waiting' here changed (lines_refused kept' n changed same)
-      (differs_invalid kept kept' n l here changed same) stops
+      (differs_invalid kept kept' n l here changed same)
+      (stand_changed invalid_line levels kept kept' rows ready n (λ c m x stands. stands) s.stand changed same) (within_same kept kept' ready s.within same) stops
 
   pub lines_ended : (kept' : Kept) (n : ℕ) (l : Line) → slice_get kept.lines n ≡ Some l → kept'.lines ≡ line_changed delivered_line n kept.lines
       → kept'.delivered ≡ kept.delivered ++ n ∷ [] → AreLines kept'
@@ -236,7 +229,8 @@ module _ (contacts : ℕ) (groups : List Known) (levels : LevelMap) (kept : Kept
       → kept'.delivered ≡ kept.delivered ++ n ∷ []
       → ((m : ℕ) → has waiting' m ≡ false
       → (cond (nat_eq m n && l.judged) false (has waiting m) ≡ false) × (is_under sleepers l.id m ≡ true → sleeps_on kept' l.id (slice_get kept'.lines m) ≡ true))
-      → AreSound contacts groups levels kept' rows waiting' sleepers owed cursors
+      → AreSound contacts groups levels kept' rows waiting' sleepers owed ready
   sound_delivered kept' n l waiting' here changed pushed stops =
       ended_so delivered_line (λ x. refl) (λ x. refl) (λ x. refl) kept' n l waiting' here changed (lines_ended kept' n l here changed pushed)
-      (differs_delivered kept kept' n l here changed pushed) stops
+      (differs_delivered kept kept' n l here changed pushed)
+      (stand_delivered levels kept kept' rows ready n s.stand s.within changed pushed) (within_delivered kept kept' ready n s.within pushed) stops

@@ -1,17 +1,21 @@
 -- What holds of plain facts stays so when a row changes.
-use Rattle.std.proofs.Common.{◌≡◌, ℕ, ◌<◌, ◌≤◌, Bool, true, false, not, cond, ◌&&◌, ◌||◌, nat_lt, arith, List, Some, refl, sym, ◌∙◌, ap, subst, nat_eq, eq-eqb, eqb-true, is_some}
+use Rattle.std.proofs.Common.{◌≡◌, ℕ, Bool, true, false, cond, ◌&&◌, List, Some, refl, sym, ◌∙◌, ap, nat_eq, eq-eqb, eqb-true, is_some}
 use Rattle.std.specs.List.{slice_get}
 use Rattle.std.proofs.lemmas.Bool.{and_parts, false≢true}
-use Rattle.sync_rules.specs.Facts.{Held, Id, Known, LevelMap, Row, Rows, change_row, is_held, is_level_shared, level_at, row_at}
+use Rattle.sync_rules.specs.Facts.{Held, Id, Known, LevelMap, Row, Rows, change_row, is_held, row_at}
 use Rattle.sync_rules.specs.Lists.{same_id}
 use Rattle.sync_rules.specs.Views.{IsPlace, place_of}
 use Rattle.sync_rules.proofs.Elements.{same_id-is, same_id_itself}
 use Rattle.sync_rules.proofs.RowLaws.{hits, row_at_change}
-use Rattle.journal_audit.specs.Lines.{Kept, held_in}
-use Rattle.journal_audit.specs.Numbers.{CursorLists, from_of, has_for, until_of}
-use Rattle.journal_audit.specs.Plain.{AreSound, AreWithin, HasPlainRows, OwesAcks, SleepsBelowCursor, is_awake}
+use Rattle.journal_audit.specs.declared.messages.Line.{Line}
+use Rattle.journal_audit.specs.declared.ready.Ready.{Ready}
+use Rattle.journal_audit.specs.Lines.{Kept, held_in, held_of}
+use Rattle.journal_audit.specs.Numbers.{has_for}
+use Rattle.journal_audit.specs.Plain.{AreSound, HasPlainRows, OwesAcks}
 use Rattle.journal_audit.specs.Sleeping.{SleeperLists}
-use Rattle.journal_audit.proofs.Lines.{place_own}
+use Rattle.journal_audit.specs.Standing.{AreStanding, IsPlaced, may_go}
+use Rattle.journal_audit.proofs.Lines.{get_held, place_own}
+use Rattle.journal_audit.proofs.Stands.{stand_put, within_on}
 
 never : (b : Bool) → b ≡ true → b ≡ false → ⊥
 never b holds fails = false≢true (sym fails ∙ holds)
@@ -20,13 +24,12 @@ not_true : (b : Bool) → (b ≡ true → ⊥) → b ≡ false
 not_true true h = absurd (h refl)
 not_true false h = refl
 
-module _ (contacts : ℕ) (groups : List Known) (levels : LevelMap) (kept : Kept) (rows : Rows) (waiting : List ℕ) (sleepers : SleeperLists) (owed : List (List ℕ)) (cursors : CursorLists)
-    (s : AreSound contacts groups levels kept rows waiting sleepers owed cursors) where
-  module _ (rows' : Rows) (owed' : List (List ℕ)) (cursors' : CursorLists) (c : ℕ) (id : Id) (n : ℕ) (change : Row → Row) (row : Row) (place : IsPlace (held_in kept.lines) id n)
+module _ (contacts : ℕ) (groups : List Known) (levels : LevelMap) (kept : Kept) (rows : Rows) (waiting : List ℕ) (sleepers : SleeperLists) (owed : List (List ℕ)) (ready : Ready)
+    (s : AreSound contacts groups levels kept rows waiting sleepers owed ready) where
+  module _ (rows' : Rows) (owed' : List (List ℕ)) (ready' : Ready) (c : ℕ) (id : Id) (n : ℕ) (change : Row → Row) (row : Row) (l : Line) (place : IsPlace (held_in kept.lines) id n)
       (changed : rows' ≡ change_row rows c id change) (row_is : row ≡ change (row_at rows c id))
       (owed_is : (x m : ℕ) → has_for owed' x m ≡ cond (nat_eq x c && nat_eq m n) row.owed (has_for owed x m))
-      (less : (x : ℕ) → from_of cursors' x ≤ from_of cursors x) (until_is : (x : ℕ) → until_of cursors' x ≡ until_of cursors x)
-      (back : row.seen ≡ false → from_of cursors' c ≤ n) where
+      (here_is : slice_get kept.lines n ≡ Some l) (goes : Bool) (goes_is : goes ≡ may_go levels c l row) (placed : IsPlaced ready ready' c n goes row) where
     abbrev held : List Held
     held = held_in kept.lines
 
@@ -79,36 +82,16 @@ module _ (contacts : ℕ) (groups : List Known) (levels : LevelMap) (kept : Kept
       by true e = ap (λ (r : Row). r.owed) (made x m h at e) ∙ (sym (owed_is x m ∙ ap (λ b. cond b row.owed (has_for owed x m)) e) ∙ out)
       by false e = ap (λ (r : Row). r.owed) (left x m h at e) ∙ s.owes x m h under at (sym (owed_is x m ∙ ap (λ b. cond b row.owed (has_for owed x m)) e) ∙ out)
 
-    sleeps : SleepsBelowCursor held levels rows' cursors'
-    sleeps x m h at under = by (nat_eq x c && nat_eq m n) refl where
-      none : (t : Bool) → (t && false) ≡ false
-      none true = refl
-      none false = refl
+    stand : AreStanding levels kept rows' ready'
+    stand =
+        stand_put levels kept rows rows' ready ready' c n l goes row here_is
+        (made c n (held_of l) (get_held kept.lines n l here_is) (itself c n))
+        (λ x m y at e. left x m (held_of y) (get_held kept.lines m y at) e) goes_is placed s.stand
+      where
+        itself : (a b : ℕ) → (nat_eq a a && nat_eq b b) ≡ true
+        itself a b = λ i. eq-eqb a a refl i && eq-eqb b b refl i
 
-      hit_so : (b : Bool) → row.seen ≡ b → (nat_eq x c && nat_eq m n) ≡ true → is_awake levels rows' x (until_of cursors' x) h ≡ false
-      hit_so true e hits_it =
-          (λ i. is_level_shared (level_at levels x h.message.group)
-          && (not ((ap (λ (r : Row). r.seen) (made x m h at hits_it) ∙ e) i)
-          && ((row_at rows' x h.id).asked || nat_lt (row_at rows' x h.id).expiry (until_of cursors' x)))) ∙ none (is_level_shared (level_at levels x h.message.group))
-      hit_so false e hits_it =
-          let both = and_parts (nat_eq x c) (nat_eq m n) hits_it in
-          let contact : x ≡ c = eqb-true x c both.0 in
-          let number : m ≡ n = eqb-true m n both.1 in
-          let most : from_of cursors' x ≤ n = subst (λ (k : ℕ). from_of cursors' k ≤ n) (sym contact) (back e) in
-          absurd (omega (arith, number, most, under))
-
-      by : (b : Bool) → (nat_eq x c && nat_eq m n) ≡ b → is_awake levels rows' x (until_of cursors' x) h ≡ false
-      by true e = hit_so row.seen refl e
-      by false e =
-          let fewer = less x in
-          let was : m < from_of cursors x = omega (arith, fewer, under) in
-          (λ i. is_level_shared (level_at levels x h.message.group)
-          && (not (left x m h at e i).seen && ((left x m h at e i).asked || nat_lt (left x m h at e i).expiry (until_is x i)))) ∙ s.sleeps x m h at was
-
-    within : AreWithin kept.lines cursors'
-    within x = let fewer = less x in let old = s.within x in omega (arith, fewer, old)
-
-    pub sound_row : AreSound contacts groups levels kept rows' waiting sleepers owed' cursors'
+    pub sound_row : AreSound contacts groups levels kept rows' waiting sleepers owed' ready'
     sound_row = record {
       lines = s.lines;
       levels_fit = s.levels_fit;
@@ -116,6 +99,6 @@ module _ (contacts : ℕ) (groups : List Known) (levels : LevelMap) (kept : Kept
       rows_fit = rows_fit;
       waits = s.waits;
       owes = owes;
-      sleeps = sleeps;
-      within = within;
+      stand = stand;
+      within = within_on kept ready ready' s.within placed.cursors;
     }

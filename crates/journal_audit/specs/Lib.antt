@@ -1,4 +1,5 @@
 pub mod Answers
+pub mod Bringing
 pub mod Changes
 pub mod Files
 pub mod Frames
@@ -13,4 +14,5 @@ pub mod Rounding
 pub mod Rows
 pub mod Sessions
 pub mod Sleeping
+pub mod Standing
 pub mod Telling

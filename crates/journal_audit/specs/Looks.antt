@@ -12,7 +12,8 @@ use Rattle.sync_rules.specs.Views.{Seen}
 use Rattle.journal_audit.specs.declared.facts.PlainFacts.{PlainFacts}
 use Rattle.journal_audit.specs.declared.messages.Line.{Line}
 use Rattle.journal_audit.specs.Lines.{held_of}
-use Rattle.journal_audit.specs.Plain.{facts_of, shared_in, shares}
+use Rattle.journal_audit.specs.Plain.{facts_of, shared_in}
+use Rattle.journal_audit.specs.Standing.{shares}
 
 -- what a session sees
 abbrev pub seen_of : PlainFacts → Seen

@@ -1,18 +1,18 @@
 -- What plain facts stand for, and what holds of them.
-use Rattle.std.specs.Prelude.{◌≡◌, ℕ, ◌<◌, ◌≤◌, Bool, true, false, not, ◌&&◌, ◌||◌, nat_lt, List, length, Some, is_some, slice_get}
+use Rattle.std.specs.Prelude.{◌≡◌, ℕ, ◌<◌, ◌≤◌, true, false, ◌&&◌, List, Some, is_some, slice_get}
 use Rattle.std.specs.List.{AllByRecursion, list_all}
-use Rattle.sync_rules.specs.declared.answers.Judgement.{Judgement}
-use Rattle.sync_rules.specs.declared.answers.Judgement.TheVariants as judgement
 use Rattle.sync_rules.specs.declared.entries.Entry.{Entry}
 use Rattle.sync_rules.specs.declared.entries.Level.TheVariants as level
 use Rattle.sync_rules.specs.Clients.{Meaning}
-use Rattle.sync_rules.specs.Facts.{Facts, Held, Id, Known, LevelMap, Rows, after, group_at, is_held, is_invisible, is_level_shared, level_at, no_row, row_at}
+use Rattle.sync_rules.specs.Facts.{Facts, Held, Id, Known, LevelMap, Rows, after, group_at, is_held, is_invisible, level_at, no_row, row_at}
 use Rattle.sync_rules.specs.Steps.{verdict_in}
 use Rattle.journal_audit.specs.declared.facts.PlainFacts.{PlainFacts}
 use Rattle.journal_audit.specs.declared.messages.Line.{Line}
+use Rattle.journal_audit.specs.declared.ready.Ready.{Ready}
 use Rattle.journal_audit.specs.Lines.{AreLines, Kept, delivered_in, held_in, ids_flagged, invalid_in, judged_in}
-use Rattle.journal_audit.specs.Numbers.{CursorLists, from_of, has_for, until_of}
+use Rattle.journal_audit.specs.Numbers.{has_for}
 use Rattle.journal_audit.specs.Sleeping.{SleeperLists, WaitsOrRests}
+use Rattle.journal_audit.specs.Standing.{AreStanding, AreWithin, shares}
 
 -- ---- the facts
 
@@ -38,10 +38,6 @@ abbrev pub rest_after : Facts → Entry → Facts
 rest_after f e = record (after f e) { start = f.start }
 
 -- ---- what clients say
-
-abbrev pub shares : Judgement → Bool
-shares judgement.Refuse = false
-shares (judgement.Accept deps share) = share
 
 -- the ids of the judged messages that may be sent on
 abbrev pub shared_in : List Line → List Id
@@ -72,36 +68,15 @@ abbrev pub OwesAcks : List Held → Rows → List (List ℕ) → Type 0
 OwesAcks held rows owed =
     (contact n : ℕ) (h : Held) → contact < 256 → slice_get held n ≡ Some h → has_for owed contact n ≡ false → (row_at rows contact h.id).owed ≡ false
 
--- a message may be due to the contact at some time before this one: it is in a group that is Shared with the contact, the contact
--- does not have it, and it was asked for, or its time comes before
-abbrev pub is_awake : LevelMap → Rows → ℕ → ℕ → Held → Bool
-is_awake levels rows contact until h =
-    is_level_shared (level_at levels contact h.message.group)
-    && (not (row_at rows contact h.id).seen && ((row_at rows contact h.id).asked || nat_lt (row_at rows contact h.id).expiry until))
-
--- nothing below a contact's cursor is due before its time
-abbrev pub SleepsBelowCursor : List Held → LevelMap → Rows → CursorLists → Type 0
-SleepsBelowCursor held levels rows cursors =
-    (contact n : ℕ) (h : Held) → slice_get held n ≡ Some h → n < from_of cursors contact → is_awake levels rows contact (until_of cursors contact) h ≡ false
-
--- no cursor is beyond the messages
-abbrev pub AreWithin : List Line → CursorLists → Type 0
-AreWithin lines cursors = (contact : ℕ) → from_of cursors contact ≤ length lines
-
-pub record AreSound (contacts : ℕ) (groups : List Known) (levels : LevelMap) (kept : Kept) (rows : Rows) (waiting : List ℕ) (sleepers : SleeperLists) (owed : List (List ℕ)) (cursors : CursorLists) : Type 0 where
+pub record AreSound (contacts : ℕ) (groups : List Known) (levels : LevelMap) (kept : Kept) (rows : Rows) (waiting : List ℕ) (sleepers : SleeperLists) (owed : List (List ℕ)) (ready : Ready) : Type 0 where
   pub lines : AreLines kept
   pub levels_fit : HasPlainLevels contacts groups levels
   pub grouped : AreGrouped groups (held_in kept.lines)
   pub rows_fit : HasPlainRows (held_in kept.lines) rows
   pub waits : WaitsOrRests kept waiting sleepers
   pub owes : OwesAcks (held_in kept.lines) rows owed
-  pub sleeps : SleepsBelowCursor (held_in kept.lines) levels rows cursors
-  pub within : AreWithin kept.lines cursors
+  pub stand : AreStanding levels kept rows ready
+  pub within : AreWithin kept ready
 
 abbrev pub IsPlainSound : PlainFacts → Type 0
-IsPlainSound p = AreSound p.contacts p.groups p.levels p.messages p.rows p.waiting p.sleepers p.owed p.cursors
-
--- a message of this number need not be looked at before this time
-pub record PassesUntil (p : PlainFacts) (contact n until : ℕ) : Type 0 where
-  pub sooner : until ≤ until_of p.cursors contact
-  pub asleep : (h : Held) → slice_get (held_in p.messages.lines) n ≡ Some h → is_awake p.levels p.rows contact until h ≡ false
+IsPlainSound p = AreSound p.contacts p.groups p.levels p.messages p.rows p.waiting p.sleepers p.owed p.ready

@@ -1,17 +1,22 @@
 //! Which held messages are owed, sent and offered to a contact.
-ghost use Rattle.std.specs.Prelude.{◌≡◌, ◌&&◌, drop, not, nat_le, IfOk, slice_get, take};
+ghost use Rattle.std.specs.Prelude.{◌≡◌, ◌&&◌, ℕ, not, nat_le, IfOk, slice_get, take};
+ghost use Rattle.std.specs.List.Sorted.{IsStrictlySortedBy};
 ghost use Rattle.std.specs.Option.{option_copied};
+ghost use Rattle.std.specs.Ordering.{nat_cmp};
 ghost use Rattle.sync_rules.specs.Facts.{is_level_shared, level_at};
 ghost use Rattle.sync_rules.specs.Sessions.{first_id, ids_where, is_author, is_ripe};
 ghost use Rattle.sync_ids.specs.declared.lists.TheConstants.{MAX_IDS};
 ghost use Rattle.journal_audit.specs.Lines.{held_in};
 ghost use Rattle.journal_audit.specs.Looks.{ids_at, is_line_sendable, is_offered, is_owed, is_sent};
 ghost use Rattle.journal_audit.specs.Looks.{picked, seen_of};
-ghost use Rattle.journal_audit.specs.Plain.{IsPlainSound, shares};
+ghost use Rattle.journal_audit.specs.Numbers.{has, has_for};
+ghost use Rattle.journal_audit.specs.Plain.{IsPlainSound};
+ghost use Rattle.journal_audit.specs.Standing.{may_go, set_for, shares};
 
 use crate::facts::PlainFacts;
 use crate::levels::Levels;
 use crate::messages::Line;
+use crate::ready::Ready;
 use crate::rows::ContactRow;
 use std::alloc::{AllocError, Global};
 use std::collections::BTreeSet;
@@ -20,8 +25,8 @@ use sync_rules::{Judgement, Level, Mode, Origin};
 
 // ---- one message
 
-/// Whether a group is Shared with the contact.
-pub(crate) fn is_shared(levels: &Levels, contact: u8, group: &GroupId) -> bool
+// Whether a group is Shared with the contact.
+fn is_shared(levels: &Levels, contact: u8, group: &GroupId) -> bool
     ensures { result ≡ is_level_shared (level_at levels.now contact group.now) }
 {
     match levels.level(contact, group) {
@@ -48,6 +53,16 @@ fn shares(answer: &Judgement) -> bool
         Judgement::Refuse => false,
         Judgement::Accept { share, .. } => *share,
     }
+}
+
+/// Whether a message may go to a contact for which this row is kept, once it is judged.
+pub(crate) fn may_go(levels: &Levels, contact: u8, line: &Line, row: ContactRow) -> bool
+    ensures { result ≡ may_go levels.now contact line.now row }
+{
+    line.delivered
+        && is_shared(levels, contact, &line.message.group())
+        && !row.seen
+        && (is_author(line.origin) || shares(&line.answer))
 }
 
 // Whether a message may be sent to a contact for which this row is kept.
@@ -155,19 +170,49 @@ pub(crate) fn owed_ids(
     Ok(ids)
 }
 
-/// The first message from this number on that is to be sent to the contact.
+/// The numbers of the messages that may be sent to a contact in this mode, and maybe of more.
+pub(crate) fn numbers_for(ready: &Ready, contact: u8, mode: Mode) -> &BTreeSet<u32>
+    ensures value { (n : ℕ) → has result.now.keys n ≡ has_for (set_for ready.now mode) contact n }
+    ensures ascends { IsStrictlySortedBy nat_cmp result.now.keys }
+{
+    match mode {
+        Mode::Interactive => ready.asked.of(contact),
+        Mode::Batch => ready.awake.of(contact),
+    }
+}
+
+/// The first of the messages of these numbers that is to be sent to the contact.
 pub(crate) fn first_sent(
     facts: &PlainFacts,
     contact: u8,
     mode: Mode,
     now: u64,
-    from: u32,
+    numbers: &BTreeSet<u32>,
+) -> Option<MessageId>
+    requires { IsPlainSound facts.now }
+    ensures { result ≡ first_id (ids_at (is_sent (seen_of facts.now) contact mode now)
+        (held_in facts.now.messages.lines) numbers.now.keys) }
+{
+    for n in numbers {
+        if let Some(id) = sent_at(facts, contact, mode, now, *n) {
+            return Some(id);
+        }
+    }
+    None
+}
+
+/// The first message that is to be sent to the contact.
+pub(crate) fn first_sent_of_all(
+    facts: &PlainFacts,
+    contact: u8,
+    mode: Mode,
+    now: u64,
 ) -> Option<MessageId>
     requires { IsPlainSound facts.now }
     ensures { result ≡ first_id (ids_where (is_sent (seen_of facts.now) contact mode now)
-        (drop from (held_in facts.now.messages.lines))) }
+        (held_in facts.now.messages.lines)) }
 {
-    for n in from..facts.messages.len() {
+    for n in 0..facts.messages.len() {
         if let Some(id) = sent_at(facts, contact, mode, now, n) {
             return Some(id);
         }
@@ -175,22 +220,46 @@ pub(crate) fn first_sent(
     None
 }
 
-/// The ids of the messages from this number on that are to be offered to the contact, at most the
-/// first MAX_IDS of them.
+/// The ids of the messages of these numbers that are to be offered to the contact, at most the first
+/// MAX_IDS of them.
 pub(crate) fn offered_ids(
     alloc: Global,
     facts: &PlainFacts,
     contact: u8,
     now: u64,
-    from: u32,
+    numbers: &BTreeSet<u32>,
+) -> Result<Vec<MessageId>, AllocError>
+    requires { IsPlainSound facts.now }
+    ensures { IfOk result (λ ids. ids.items ≡ take MAX_IDS (ids_at
+        (is_offered (seen_of facts.now) contact now) (held_in facts.now.messages.lines)
+        numbers.now.keys)) }
+{
+    let mut ids = Vec::new(alloc);
+    for n in numbers {
+        if ids.len() >= MAX_IDS {
+            break;
+        }
+        if let Some(id) = offered_at(facts, contact, now, *n) {
+            ids.push(id)?;
+        }
+    }
+    ids.truncate(MAX_IDS);
+    Ok(ids)
+}
+
+/// The ids of the messages that are to be offered to the contact, at most the first MAX_IDS of them.
+pub(crate) fn offered_of_all(
+    alloc: Global,
+    facts: &PlainFacts,
+    contact: u8,
+    now: u64,
 ) -> Result<Vec<MessageId>, AllocError>
     requires { IsPlainSound facts.now }
     ensures { IfOk result (λ ids. ids.items ≡ take MAX_IDS (ids_where
-        (is_offered (seen_of facts.now) contact now)
-        (drop from (held_in facts.now.messages.lines)))) }
+        (is_offered (seen_of facts.now) contact now) (held_in facts.now.messages.lines))) }
 {
     let mut ids = Vec::new(alloc);
-    for n in from..facts.messages.len() {
+    for n in 0..facts.messages.len() {
         if ids.len() >= MAX_IDS {
             break;
         }

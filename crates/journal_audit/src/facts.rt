@@ -4,12 +4,12 @@ ghost use Rattle.sync_rules.specs.Clients.{Meaning};
 ghost use Rattle.sync_rules.specs.Facts.{nothing};
 ghost use Rattle.journal_audit.specs.Plain.{IsPlainSound, KnowsMeanings, facts_of};
 
-use crate::cursors::Cursors;
 use crate::groups::Groups;
 use crate::hints::Hints;
 use crate::levels::Levels;
 use crate::messages::Messages;
 use crate::numbers::{ByContact, Numbers};
+use crate::ready::Ready;
 use crate::rows::Rows;
 use crate::sessions::Sessions;
 use crate::sleepers::Sleepers;
@@ -19,7 +19,7 @@ use sync_rules::Start;
 
 /// The facts of a journal as the definitions have them, in maps and sets. Two sets of arrival numbers
 /// say where it is worth to look for steps and for what is owed: each has the messages that matter,
-/// and maybe more. Cursors say from where on for what is due.
+/// and maybe more. Others say which messages may go to each contact.
 #[derive(Drop)]
 pub(crate) struct PlainFacts {
     /// How the journal began.
@@ -46,8 +46,8 @@ pub(crate) struct PlainFacts {
     pub(crate) hints: Hints,
     /// For each contact the messages that may wait for our acknowledgement.
     pub(crate) owed: ByContact,
-    /// For each contact the number below which no message is due to it for a while.
-    pub(crate) cursors: Cursors,
+    /// For each contact where the messages stand that may go to it.
+    pub(crate) ready: Ready,
 }
 
 impl PlainFacts {
@@ -70,7 +70,7 @@ impl PlainFacts {
             sleepers: Sleepers::new(alloc),
             hints: Hints::new(alloc),
             owed: ByContact::new(alloc)?,
-            cursors: Cursors::new(alloc)?,
+            ready: Ready::new(alloc)?,
         })
     }
 }

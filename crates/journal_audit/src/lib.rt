@@ -1,7 +1,10 @@
 //! An audit of the two files of a store.
 #![tactic(auto)]
 
+mod alarms;
 mod auditing;
+mod bringing;
+mod clocks;
 mod cursors;
 mod due;
 mod facts;
@@ -14,9 +17,9 @@ mod levels;
 mod messages;
 mod names;
 mod numbers;
-mod passing;
 mod playing;
 mod reading;
+mod ready;
 mod report;
 mod restoring;
 mod rounds;

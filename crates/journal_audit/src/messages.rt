@@ -103,6 +103,13 @@ impl Messages {
         self.delivered.as_slice()
     }
 
+    /// The number of the delivered message of this place, in the order of their delivery.
+    pub(crate) fn delivered_at(&self, k: usize) -> Option<u32>
+        ensures { result ≡ slice_get self.now.delivered k }
+    {
+        self.delivered.get(k).copied()
+    }
+
     /// The line of this arrival number, where there is one.
     pub(crate) fn get(&self, n: u32) -> Option<&Line>
         ensures { option_copied result ≡ slice_get self.now.lines n }

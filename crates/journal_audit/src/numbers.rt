@@ -89,8 +89,8 @@ impl ByContact {
         Ok(ByContact { sets })
     }
 
-    /// Adds a number for a contact. After want of memory nothing is said of the sets.
-    pub(crate) fn add(&mut self, contact: u8, number: u32) -> Result<(), AllocError>
+    // Adds a number for a contact. After want of memory nothing is said of the sets.
+    fn add(&mut self, contact: u8, number: u32) -> Result<(), AllocError>
         ensures { OnOk result ((c n : ℕ) → has_for self.new c n ≡ cond (nat_eq c contact && nat_eq
             n number) true (has_for self.old c n)) }
     {
@@ -98,13 +98,26 @@ impl ByContact {
         set.add(number)
     }
 
-    /// Takes a number out for a contact.
-    pub(crate) fn remove(&mut self, contact: u8, number: u32)
+    // Takes a number out for a contact.
+    fn remove(&mut self, contact: u8, number: u32)
         ensures { (c n : ℕ) → has_for self.new c n ≡ cond (nat_eq c contact && nat_eq n number)
             false (has_for self.old c n) }
     {
         let set = &mut self.sets[contact as usize];
         set.remove(number);
+    }
+
+    /// A number is in the set of a contact, or not. After want of memory nothing is said of the sets.
+    pub(crate) fn mark(&mut self, contact: u8, number: u32, is_in: bool) -> Result<(), AllocError>
+        ensures { OnOk result ((c n : ℕ) → has_for self.new c n ≡ cond (nat_eq c contact && nat_eq
+            n number) is_in (has_for self.old c n)) }
+    {
+        if is_in {
+            self.add(contact, number)
+        } else {
+            self.remove(contact, number);
+            Ok(())
+        }
     }
 
     /// The numbers for a contact, in ascending order.

@@ -177,8 +177,8 @@ fn allows_other<C: Clients>(
     allows(alloc, &view, clients, settled, batch, id)
 }
 
-// Another batch, once what is not due for it was passed.
-fn admit_passed<C: Clients>(
+// Another batch, once what may go for it was brought.
+fn admit_brought<C: Clients>(
     facts: &mut PlainFacts,
     alloc: Global,
     clients: &C,
@@ -212,8 +212,8 @@ fn admit_other<C: Clients>(
     ensures { IfOk result (PlaysEntries (C.meaning clients.now) facts.old facts.new
         (allows (C.meaning clients.now) (facts_of facts.old) batch) batch) }
 {
-    facts.pass_for(batch.entries());
-    admit_passed(facts, alloc, clients, batch)
+    facts.bring_for(alloc, batch.entries())?;
+    admit_brought(facts, alloc, clients, batch)
 }
 
 /// Tests whether a batch may follow the journal, and takes it where it may. It fails only for want

@@ -11,14 +11,15 @@ ghost use Rattle.sync_rules.specs.Steps.{verdict_in};
 ghost use Rattle.sync_rules.specs.declared.entries.Entry.TheVariants as entry;
 ghost use Rattle.journal_audit.specs.Changes.{AreNamed, BecomesFacts, BecomesKnown, MayHoldMessage, MayTakeEntry};
 ghost use Rattle.journal_audit.specs.Changes.{FitsOut, with_rows, with_wanted};
-ghost use Rattle.journal_audit.specs.Numbers.{has, has_for};
+ghost use Rattle.journal_audit.specs.Numbers.{has};
 ghost use Rattle.journal_audit.specs.Plain.{IsPlainSound, KnowsMeanings, facts_of, rest_after};
 ghost use Rattle.journal_audit.specs.Rows.{changed_by};
 
+use crate::due::may_go;
 use crate::facts::PlainFacts;
 use crate::groups::Groups;
 use crate::messages::Line;
-use crate::numbers::{ByContact, Numbers};
+use crate::numbers::Numbers;
 use crate::rows::RowChange;
 use crate::sleeping::{lay_down, wake};
 use batch_tests::id_known;
@@ -77,19 +78,6 @@ fn stop_waiting(waiting: &mut Numbers, line: &Line, n: u32)
     }
 }
 
-// A message is owed to a contact, or not.
-fn mark_owed(owed: &mut ByContact, contact: u8, n: u32, is_owed: bool) -> Result<(), AllocError>
-    ensures { OnOk result ((c m : ℕ) → has_for owed.new c m ≡ cond (nat_eq c contact && nat_eq m n)
-        is_owed (has_for owed.old c m)) }
-{
-    if is_owed {
-        owed.add(contact, n)
-    } else {
-        owed.remove(contact, n);
-        Ok(())
-    }
-}
-
 impl PlainFacts {
     // ---- contacts, groups and levels
 
@@ -120,7 +108,7 @@ impl PlainFacts {
             (entry.Level contact group level))) }
     {
         self.levels.set(contact, group, level)?;
-        self.cursors.clear(contact);
+        self.ready.cursors.set_from(contact, 0);
         Ok(())
     }
 
@@ -293,9 +281,11 @@ impl PlainFacts {
         let Some(n) = self.messages.find(&id) else {
             unreachable!();
         };
-        let row = self.rows.change(contact, id, change)?;
-        mark_owed(&mut self.owed, contact, n, row.owed)?;
-        self.cursors.fall_back(contact, n, row.seen);
+        let was = self.rows.row(contact, &id).expiry;
+        let kept = self.rows.change(contact, id, change)?;
+        self.owed.mark(contact, n, kept.owed)?;
+        let goes = may_go(&self.levels, contact, self.messages.line(n), kept);
+        self.ready.replace(contact, n, was, goes, kept)?;
         Ok(())
     }
 

@@ -2,7 +2,9 @@
 ghost use Rattle.std.specs.Prelude.{◌≡◌};
 ghost use Rattle.journal_audit.specs.Plain.{IsPlainSound};
 
-use crate::due::{first_sent, offered_ids, owed_ids};
+use crate::due::{
+    first_sent, first_sent_of_all, numbers_for, offered_ids, offered_of_all, owed_ids,
+};
 use crate::facts::PlainFacts;
 use batch_tests::JournalView;
 use std::alloc::{AllocError, Global};
@@ -84,13 +86,19 @@ impl<'a> View for FactsView<'a> {
     }
 
     fn next_send(&self, contact: u8, mode: Mode, now: u64) -> Option<MessageId> {
-        let from = self.facts.due_from(contact, now);
-        first_sent(self.facts, contact, mode, now, from)
+        if !self.facts.is_brought(contact, now) {
+            return first_sent_of_all(self.facts, contact, mode, now);
+        }
+        let numbers = numbers_for(&self.facts.ready, contact, mode);
+        first_sent(self.facts, contact, mode, now, numbers)
     }
 
     fn offers(&self, alloc: Global, contact: u8, now: u64) -> Result<Vec<MessageId>, AllocError> {
-        let from = self.facts.due_from(contact, now);
-        offered_ids(alloc, self.facts, contact, now, from)
+        if !self.facts.is_brought(contact, now) {
+            return offered_of_all(alloc, self.facts, contact, now);
+        }
+        let numbers = self.facts.ready.awake.of(contact);
+        offered_ids(alloc, self.facts, contact, now, numbers)
     }
 }
 

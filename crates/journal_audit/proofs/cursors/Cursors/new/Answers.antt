@@ -1,5 +1,5 @@
 use Rattle.std.proofs.Common.{List, ℕ, ap, slice_index_or, ◌∙◌}
-use Rattle.journal_audit.proofs.Passed.{none_yet}
+use Rattle.journal_audit.proofs.Brought.{none_yet}
 use Rattle.journal_audit.proofs.cursors.Cursors.new.Goals as goal
 
 pub returns : goal.returns

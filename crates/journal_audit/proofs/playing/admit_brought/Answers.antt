@@ -2,7 +2,7 @@ use Rattle.std.proofs.Common.{sym, ◌∙◌, subst}
 use Rattle.journal_audit.specs.Plain.{facts_of}
 use Rattle.journal_audit.specs.Playing.{AllFit}
 use Rattle.journal_audit.proofs.Plays.{allowed_fits}
-use Rattle.journal_audit.proofs.playing.admit_passed.Goals as goal
+use Rattle.journal_audit.proofs.playing.admit_brought.Goals as goal
 
 pub take_all-requires-clause-fit : goal.take_all-requires-clause-fit
 take_all-requires-clause-fit g c =
