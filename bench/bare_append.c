@@ -9,8 +9,9 @@
  * and synced.
  *
  * With a header, in hexadecimal digits and without its gate, the journal is written anew into FILE1, which is not there: a
- * closed gate, the header behind it, the frames, and then its gate is opened. The last frame is added behind that;
- * with `whole` it stands before it too. */
+ * closed gate, the header behind it, the frames, and then its gate is opened. These frames are added in groups of at most
+ * 1,048,576 bytes: all but the first with their gates open, in one write, and the first gate is opened behind its sync. The
+ * last frame is added behind the header's gate, by itself; with `whole` it stands before it too. */
 #include <fcntl.h>
 #include <stdint.h>
 #include <stdio.h>
@@ -19,7 +20,7 @@
 #include <sys/stat.h>
 #include <unistd.h>
 
-enum { MOST = 1 << 28, HEADER = 13 };
+enum { MOST = 1 << 28, MOST_GROUP = 1 << 20, HEADER = 13 };
 
 static const unsigned char open_gate = 1, closed_gate = 0;
 
@@ -62,6 +63,33 @@ static size_t frame_size(const unsigned char *at)
     return 5 + ((size_t)at[0] << 24 | (size_t)at[1] << 16 | (size_t)at[2] << 8 | at[3]);
 }
 
+/* The size of the frames at the front of some bytes that are added at once; the gates between them are opened. */
+static size_t group_size(unsigned char *at, size_t left)
+{
+    size_t size = frame_size(at);
+    while (size < left && size + frame_size(at + size) <= MOST_GROUP) {
+        at[size - 1] = open_gate;
+        size += frame_size(at + size);
+    }
+    return size;
+}
+
+/* Where the last frame of some bytes begins. */
+static size_t last_frame(const unsigned char *frames, size_t have)
+{
+    size_t at = 0;
+    while (at + frame_size(frames + at) < have)
+        at += frame_size(frames + at);
+    return at;
+}
+
+/* Adds these bytes at a closed gate. */
+static void add_at(int file, off_t gate, const unsigned char *bytes, size_t size)
+{
+    write_at(file, gate + 1, bytes, size);
+    write_at(file, gate, &open_gate, 1);
+}
+
 /* Makes a file whose header has these digits behind its closed gate, and a closed gate behind it. */
 static int prepare(const char *path, const char *digits)
 {
@@ -88,17 +116,17 @@ int main(int count, char **words)
     check(file >= 0 && fstat(file, &told) == 0, words[1]);
     off_t gate = told.st_size - 1;
     size_t have = read_input(frames);
-    for (size_t at = 0; at + 5 < have;) {
-        size_t size = frame_size(frames + at);
-        check(at + size <= have, "frames");
-        if (moves && !whole && at + size == have)
-            write_at(file, 0, &open_gate, 1);
-        write_at(file, gate + 1, frames + at, size);
-        write_at(file, gate, &open_gate, 1);
+    size_t end = moves && !whole ? last_frame(frames, have) : have;
+    for (size_t at = 0; at + 5 < end;) {
+        size_t size = moves ? group_size(frames + at, end - at) : frame_size(frames + at);
+        check(at + size <= end, "frames");
+        add_at(file, gate, frames + at, size);
         gate += (off_t)size;
         at += size;
     }
-    if (whole)
+    if (moves)
         write_at(file, 0, &open_gate, 1);
+    if (end < have)
+        add_at(file, gate, frames + end, have - end);
     return 0;
 }
