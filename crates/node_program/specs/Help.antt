@@ -120,7 +120,7 @@ abbrev pub TellsText : (text : List ℕ) (out out' err err' : Stream) → Status
 TellsText text out out' err err' given =
     (Appends out.bytes out'.bytes text × IsIdle err err' × (given ≡ status.Done))
     ⊎ (GetsFront out out' text × CountRose out.faults out'.faults
-        × ReportsOutcome outcome.WriteFault err err' given)
+    × ReportsOutcome outcome.WriteFault err err' given)
 
 -- what was asked is told on the output; what is not there is a wrong word, on the error output
 -- alone
