@@ -127,13 +127,17 @@ impl ContactRows {
         }
     }
 
-    /// Brings the rows in order by what was said, which is then forgotten.
+    /// Brings the rows in order by what was said, which is then forgotten. Where nothing was said
+    /// they are in order, and none is looked at.
     pub(crate) fn bring(&mut self, released: &[Option<Released>])
         ensures queues { self.new.queues ≡ shown released.now self.old.turns.entries
             self.old.queues }
         ensures turns { self.new.turns.entries ≡ [] }
         ensures room { HasTurnRoom self.old → HasTurnRoom self.new }
     {
+        if self.turns.is_empty() {
+            return;
+        }
         self.bring_rows(released);
         self.turns.clear();
     }
