@@ -103,6 +103,7 @@ stays_itself s = record {
   format = refl;
   generation = refl;
   end = refl;
+  waiting = refl;
   limit = refl;
   closed = refl;
 }

@@ -34,6 +34,7 @@ as_before s = record {
   format = refl;
   generation = refl;
   end = refl;
+  waiting = refl;
   limit = refl;
   closed = refl;
 }

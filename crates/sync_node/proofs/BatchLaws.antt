@@ -101,7 +101,7 @@ settle_by clients s s' result o o' ready run has still ready' = record {
   settling = has.comes.settling;
   did =
       did_batches clients s s' has.more o o' (λ j whole. IsBetween j has.more whole)
-      (λ j whole. whole ≡ j ++ has.more) ready.fits run has.comes.calls.most has.comes.limit
+      (λ j whole. whole ≡ j ++ has.more) ready.fits run (settled_within clients s s' result o o' has) has.comes.limit
       has.comes.format (λ j whole between. between) has.comes.leads still (λ j whole is. is);
   facts = has.comes.facts;
   ready = ready' still;
@@ -124,7 +124,7 @@ settle_breaks clients s s' result o o' ready run has rose = record {
   settling = has.comes.settling;
   breaks =
       did_breaks clients s s' has.more o o' (λ j whole. IsBetween j has.more whole)
-      (λ j whole. whole ≡ j ++ has.more) ready.fits run has.comes.calls.most has.comes.limit
+      (λ j whole. whole ≡ j ++ has.more) ready.fits run (settled_within clients s s' result o o' has) has.comes.limit
       has.comes.format (λ j whole between. between) has.comes.leads rose;
 }
 
@@ -136,7 +136,7 @@ module _ (clients : Meaning) (batch : List Entry) (s s' : StoreValue)
   all_did : s'.closed ≡ false → Did clients (commit_acts has.more) s s' o o'
   all_did still =
       did_batches clients s s' has.more o o' (λ j whole. IsBetween j has.more whole)
-      (λ j whole. whole ≡ j ++ has.more) ready.fits has.runs.run has.runs.calls.most has.runs.limit
+      (λ j whole. whole ≡ j ++ has.more) ready.fits has.runs.run (runs_within clients s s' o o' has.more has.runs) has.runs.limit
       has.runs.format (λ j whole between. between) has.runs.leads still (λ j whole is. is)
 
   pub add_by : s'.closed ≡ false → (s'.closed ≡ false → IsReady clients s' o'.files)
@@ -155,7 +155,7 @@ module _ (clients : Meaning) (batch : List Entry) (s s' : StoreValue)
     adds = has.adds;
     breaks =
         did_breaks clients s s' has.more o o' (λ j whole. IsBetween j has.more whole)
-        (λ j whole. whole ≡ j ++ has.more) ready.fits has.runs.run has.runs.calls.most
+        (λ j whole. whole ≡ j ++ has.more) ready.fits has.runs.run (runs_within clients s s' o o' has.more has.runs)
         has.runs.limit
         has.runs.format (λ j whole between. between) has.runs.leads rose;
   }

@@ -435,7 +435,7 @@ starts_memory {clients = clients} {x = x} {s = s} {o = o} r is ready =
       stops = record {
         ready = ready;
         undone = record {
-          stays = record { facts = refl; answers = refl; file = refl; format = refl; generation = refl; end = refl; limit = refl; closed = refl };
+          stays = record { facts = refl; answers = refl; file = refl; format = refl; generation = refl; end = refl; waiting = refl; limit = refl; closed = refl };
           same_host = refl;
         };
       };

@@ -35,6 +35,7 @@ use Rattle.sync_store.specs.Store.{HasNumbers, IsStore, StoreValue, counts_to, f
 use Rattle.sync_store.specs.Store.{written_in}
 use Rattle.sync_store.proofs.BriefFacts.{left_without, none_taken, settled_without}
 use Rattle.sync_store.proofs.FitSteps.{leads_none, true≢false}
+use Rattle.sync_store.proofs.GroupSteps.{none_group}
 use Rattle.sync_store.proofs.MigrateSteps.{fits_at, moved_with, same_self}
 
 -- ---- no call of the disk
@@ -124,6 +125,7 @@ shortened_store clients s state m n store roomy facts next =
       records = λ session. omega (arith, none_taken f session);
     } in
     record {
+      waits = none_group;
       limited = store.limited;
       roomy = omega (arith, store.limited, roomy, next.end_is, room, same, left_without f);
       numbers =

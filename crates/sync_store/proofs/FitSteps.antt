@@ -42,7 +42,7 @@ use Rattle.sync_store.proofs.Headers.{one_format, one_generation, one_journal_fi
 -- ---- the two files
 
 -- a crash leaves of a file in which nothing is pending what it reads as
-other_settled : (two : Two File) (file : ℕ) → NothingPending two 0 → NothingPending two 1
+pub other_settled : (two : Two File) (file : ℕ) → NothingPending two 0 → NothingPending two 1
     → other_of two file ≡ settled (other_of two file).now
 other_settled two zero first second = second
 other_settled two (suc _) first second = first
@@ -52,17 +52,17 @@ this_settled : (two : Two File) (file : ℕ) → NothingPending two 0 → Nothin
 this_settled two zero first second = first
 this_settled two (suc _) first second = second
 
-first_of : (two : Two File) (file : ℕ) → NothingPending two file → other_of two file ≡ settled
+pub first_of : (two : Two File) (file : ℕ) → NothingPending two file → other_of two file ≡ settled
     (other_of two file).now → NothingPending two 0
 first_of two zero this other = this
 first_of two (suc _) this other = other
 
-second_of : (two : Two File) (file : ℕ) → NothingPending two file → other_of two file ≡ settled
+pub second_of : (two : Two File) (file : ℕ) → NothingPending two file → other_of two file ≡ settled
     (other_of two file).now → NothingPending two 1
 second_of two zero this other = other
 second_of two (suc _) this other = this
 
-other_reads : (two : Two File) (file : ℕ) → other_of (read_files two) file ≡ (other_of two file).now
+pub other_reads : (two : Two File) (file : ℕ) → other_of (read_files two) file ≡ (other_of two file).now
 other_reads two zero = refl
 other_reads two (suc _) = refl
 
@@ -74,7 +74,7 @@ this_reads two (suc _) = refl
 -- ---- what the files of a moment stand for
 
 -- frames of a journal behind the store's header, and the other file as it was
-stands_at : JournalsStand → (clients : Meaning) (s : StoreValue) (j : List (List Entry))
+pub stands_at : JournalsStand → (clients : Meaning) (s : StoreValue) (j : List (List Entry))
     (two : Two File) (fits : FitsFiles clients s j two) (m : Two (List ℕ)) (k : List (List Entry))
     → HasFrames (file_of m s.file) fits.header (payloads (written_in s) nothing k)
     → other_of m s.file ≡ (other_of two s.file).now → Legal clients k
@@ -109,7 +109,7 @@ stands_at stand clients s j two fits m k frames other legal kinds within bounded
     })
 
 -- the room of a store in words of its journal
-bounded_now : (clients : Meaning) (s : StoreValue) (j : List (List Entry)) (two : Two File)
+pub bounded_now : (clients : Meaning) (s : StoreValue) (j : List (List Entry)) (two : Two File)
     → FitsFiles clients s j two → s.end + room_of (written_in s) s.state.facts ≤ MAX_JOURNAL
     → journal_end (written_in s) j + room_of (written_in s) (facts j) ≤ MAX_JOURNAL
 bounded_now clients s j two fits roomy =
@@ -239,8 +239,8 @@ adds_moment stand clients s j two batch framed sent fits may m moment =
 pub adds_fits : JournalsStand → (clients : Meaning) (s new : StoreValue) (j : List (List Entry))
     (two two' : Two File) (batch : List Entry) (framed : List ℕ) → FitsFiles clients s j two
     → MayAdd clients s batch framed → AppendsFrame s.file s.end framed two two'
-    → GainsBatch s new batch → FitsFiles clients new (j ++ batch ∷ []) two'
-adds_fits stand clients s new j two two' batch framed fits may appends is_with =
+    → GainsBatch s new batch → new.waiting ≡ s.waiting → FitsFiles clients new (j ++ batch ∷ []) two'
+adds_fits stand clients s new j two two' batch framed fits may appends is_with waiting =
     let payload_is = payload_here clients s j two batch framed fits may in
     let long : length framed ≡ 5 + payload_len (written_in s) batch =
     framed_len s batch framed may.is_framed may.payload_is in
@@ -268,6 +268,7 @@ adds_fits stand clients s new j two two' batch framed fits may appends is_with =
     may.kinds in
     let within = all_push (AllByRecursion IsEntry) j batch fits.within may.within in
     record {
+      none_waits = waiting ∙ fits.none_waits;
       first_settled = first_of two' s.file appends.at_rest.settled other;
       second_settled = second_of two' s.file appends.at_rest.settled other;
       stands_for =
@@ -329,8 +330,8 @@ pub adds_ok : JournalsStand → (clients : Meaning) (s new : StoreValue) (j : Li
     → MayAdd clients s batch framed → o.files ≡ Some two
     → PassedMoments two o o' s.file (BeforeOrWith (file_of two s.file).now s.end framed)
     → RelatesTold (AppendsFrame s.file s.end framed) o.files o'.files → GainsBatch s new batch
-    → RunsCommit clients batch (Ok u) new o o' j
-adds_ok stand clients s new j two batch framed u o o' fits may told passed becomes is_with =
+    → new.waiting ≡ s.waiting → RunsCommit clients batch (Ok u) new o o' j
+adds_ok stand clients s new j two batch framed u o o' fits may told passed becomes is_with waiting =
     record {
       moments = adds_moments stand clients s j two batch framed o o' fits may passed;
       ends = λ still two' told'.
@@ -341,7 +342,7 @@ adds_ok stand clients s new j two batch framed u o o' fits may told passed becom
             refl,
             adds_fits stand clients s new j two two' batch framed fits may
                 (subst (λ (t : Two File). AppendsFrame s.file s.end framed two t) same there.2)
-                is_with,
+                is_with waiting,
           );
     }
 
@@ -356,17 +357,19 @@ adds_err stand clients s new j two batch framed e o o' fits may passed closed = 
   ends = λ still two' told'. true≢false new.closed closed still;
 }
 
--- the facts of a store, its file and its end are as before
+-- the facts of a store, its file, its end and what waits are as before
 pub record IsSame (s new : StoreValue) : Type 0 where
   pub facts : new.state.facts ≡ s.state.facts
   pub file : new.file ≡ s.file
   pub format : new.format ≡ s.format
   pub generation : new.generation ≡ s.generation
   pub end : new.end ≡ s.end
+  pub waiting : new.waiting ≡ s.waiting
 
 pub fits_same : (clients : Meaning) (s new : StoreValue) (j : List (List Entry)) (two : Two File)
     → FitsFiles clients s j two → IsSame s new → FitsFiles clients new j two
 fits_same clients s new j two fits same = record {
+  none_waits = same.waiting ∙ fits.none_waits;
   first_settled = fits.first_settled;
   second_settled = fits.second_settled;
   stands_for = fits.stands_for;
@@ -423,7 +426,7 @@ leads_none stand clients P Q s new j two o fits roomy told same p q = record {
 }
 
 -- a journal's file at rest, as an append asks
-at_rest : (clients : Meaning) (s : StoreValue) (j : List (List Entry)) (two : Two File)
+pub at_rest : (clients : Meaning) (s : StoreValue) (j : List (List Entry)) (two : Two File)
     → FitsFiles clients s j two → IsAtRest two s.file s.end
 at_rest clients s j two fits = record {
   settled = this_settled two s.file fits.first_settled fits.second_settled;

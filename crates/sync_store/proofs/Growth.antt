@@ -1,15 +1,14 @@
 -- A store that gains a batch.
-use Rattle.std.proofs.Common.{◌≡◌, ◌⊎◌, ℕ, ◌+◌, ◌*◌, ◌≤◌, ◌<◌, Bool, true, false, eqb, nat_lt, List}
-use Rattle.std.proofs.Common.{[], ◌∷◌, length, map, Option, Some, Result, Ok, Err, IsErr, refl, sym}
-use Rattle.std.proofs.Common.{ap, ◌∙◌, subst, inl, inr, arith}
+use Rattle.std.proofs.Common.{◌≡◌, ◌⊎◌, ℕ, ◌+◌, ◌-◌, ◌*◌, ◌≤◌, ◌<◌, Bool, true, false, eqb, nat_lt}
+use Rattle.std.proofs.Common.{List, [], ◌∷◌, ◌++◌, length, map, Option, Some, Result, Ok, Err, IsErr, refl, sym}
+use Rattle.std.proofs.Common.{ap, ◌∙◌, subst, inl, inr, arith, append-nil}
 use Rattle.std.specs.List.{AllByRecursion}
 use Rattle.std.proofs.lemmas.Bool.Decides.{nat_tests}
-use Rattle.outside.specs.Files.{Two, File, file_of}
-use Rattle.outside.specs.Disk.{RelatesTold}
-use Rattle.outside.specs.Outside.{Outside, MakesAtMost, MakesCalls, MakesJust}
-use Rattle.outside.specs.Steps.{PassedMoments}
+use Rattle.outside.specs.Files.{Two, File}
+use Rattle.outside.specs.Outside.{Outside, MakesCalls}
 use Rattle.outside.proofs.CallCounts.{most_none}
-use Rattle.frame_journal.specs.Append.{AppendsFrame, BeforeOrWith, framed_of, payload_of}
+use Rattle.frame_journal.specs.Append.{IsFramed, framed_of, payload_of}
+use Rattle.frame_journal.specs.Group.{IsGroup, group_len}
 use Rattle.sync_rules.specs.declared.entries.Entry.{Entry}
 use Rattle.sync_rules.specs.declared.limits.TheConstants.{MAX_STEPS}
 use Rattle.sync_rules.specs.Allows.{is_account_kind}
@@ -25,7 +24,6 @@ use Rattle.entry_codec.specs.Payloads.{names_of, payload, payload_len, spellings
 use Rattle.entry_codec.proofs.LawProofs.{batch_len_same}
 use Rattle.entry_codec.specs.Spelling.{IsEntry}
 use Rattle.entry_codec.specs.Standing.{room_of, step_len}
-use Rattle.entry_codec.specs.StandingLaws.{JournalsStand}
 use Rattle.outside.specs.declared.limits.TheConstants.{MAX_JOURNAL}
 use Rattle.sync_store.specs.declared.fault.StoreFault.{StoreFault}
 use Rattle.sync_store.specs.declared.fault.StoreFault.TheVariants as fault
@@ -33,16 +31,18 @@ use Rattle.sync_store.specs.Cited.{StoreLaws}
 use Rattle.sync_store.specs.Store.{HasNumbers, IsStore, StoreValue, counts_to, format_meant}
 use Rattle.sync_store.specs.Store.{written_in}
 use Rattle.sync_store.specs.Commits.{GainsBatch, MayAdd, needed}
-use Rattle.sync_store.specs.Moments.{journal_with}
+use Rattle.sync_store.specs.Gathering.{GathersSo, GathersSteps, IsOneBatch}
+use Rattle.sync_store.specs.Groups.{HasGathered, HasGroupRoom}
+use Rattle.sync_store.specs.Moments.{groups_for, journal_with}
 use Rattle.sync_store.specs.Ready.{IsReady}
-use Rattle.sync_store.specs.Settling.{BatchSo, ComesBy, IsOneBatch, MakesBatch}
-use Rattle.sync_store.proofs.FitSteps.{IsSame, adds_err, adds_ok, fits_some_same, framed_len}
-use Rattle.sync_store.proofs.FitSteps.{true≢false}
+use Rattle.sync_store.proofs.FitSteps.{IsSame, fits_some_same, framed_len}
+use Rattle.sync_store.proofs.GroupCounts.{joins_those}
+use Rattle.sync_store.proofs.GroupSteps.{JoinsFrame, gathered_more, gathered_same, group_some}
+use Rattle.sync_store.proofs.GroupSteps.{joins_group}
 use Rattle.sync_store.proofs.FormatLaws.{room_framed, room_less, steps_few, steps_some}
 use Rattle.frame_journal.proofs.Framed.{framed_as, framed_length, payload_framed}
 use Rattle.sync_store.proofs.OldKinds.{allowed_old, kinds_of, settling_old}
 use Rattle.sync_store.proofs.Limits.{counts_more}
-use Rattle.sync_store.proofs.SettleSteps.{calls_closed, calls_one, leads_one, leads_one_closed}
 use Rattle.sync_store.proofs.Steps.{names_stay, numbers_stay}
 
 -- ---- numbers
@@ -65,8 +65,8 @@ grown_numbers laws clients f batch end later allowed numbers far =
 -- the numbers of a store that gained a batch
 pub grown_store : StoreLaws → (clients : Meaning) (s new : StoreValue) (batch : List Entry)
     (framed : List ℕ) → IsStore s → MayAdd clients s batch framed → GainsBatch s new batch
-    → IsStore new
-grown_store laws clients s new batch framed store may gains =
+    → IsGroup new.waiting → IsStore new
+grown_store laws clients s new batch framed store may gains waits =
     let long : length framed ≡ 5 + payload_len (written_in s) batch =
     framed_len s batch framed may.is_framed may.payload_is in
     let room : room_of (written_in new) new.state.facts
@@ -74,6 +74,7 @@ grown_store laws clients s new batch framed store may gains =
     ap (λ (f : Facts). room_of (written_in new) f) gains.facts
     ∙ ap (λ n. room_of (format_meant n) (after_all s.state.facts batch)) gains.format in
     record {
+      waits = waits;
       limited = omega (arith, store.limited, gains.limit);
       roomy = omega (arith, may.still_roomy, gains.end, long, room);
       numbers =
@@ -89,14 +90,15 @@ grown_store laws clients s new batch framed store may gains =
 pub stepped_store : (clients : Meaning) (s new : StoreValue) (es : List Entry) → IsStore s
     → IsSettling clients s.state.facts es → new.state.facts ≡ after_all s.state.facts es
     → new.end ≡ s.end
-    → new.limit ≡ s.limit → new.format ≡ s.format → IsStore new
-stepped_store clients s new es store settling facts end limit format =
+    → new.waiting ≡ s.waiting → new.limit ≡ s.limit → new.format ≡ s.format → IsStore new
+stepped_store clients s new es store settling facts end waiting limit format =
     let fewer = steps_lower clients s.state.facts es settling in
     let left : left_of new.state.facts ≤ left_of s.state.facts =
     omega (arith, fewer, ap left_of facts) in
     let room : room_of (written_in new) new.state.facts ≡ room_of (written_in s) new.state.facts =
     ap (λ n. room_of (format_meant n) new.state.facts) format in
     record {
+      waits = subst IsGroup (sym waiting) store.waits;
       limited = omega (arith, store.limited, limit);
       roomy = omega (
         arith,
@@ -121,6 +123,7 @@ pub ready_same : (clients : Meaning) (s new : StoreValue) (files : Option (Two F
     → IsReady clients new files
 ready_same clients s new files ready same answers still = record {
   still_open = still;
+  none_waits = same.waiting ∙ ready.none_waits;
   knows =
       answers ∙ ready.knows ∙ ap (λ (f : Facts). map (answer_of clients f) f.held) (sym same.facts);
   fits = fits_some_same clients s new files ready.fits same;
@@ -207,15 +210,6 @@ filled_may clients s facts es framed f =
           omega (arith, f.store.roomy, frame, f.long, len, length_by p framed f.framed_is);
     }
 
-pub filled_room : (clients : Meaning) (s : StoreValue) (facts : Facts) (es : List Entry)
-    (framed : List ℕ) → Filled clients s facts es framed
-    → s.end + length framed + room_of (written_in s) facts ≤ MAX_JOURNAL
-filled_room clients s facts es framed f =
-    let may = filled_may clients s facts es framed f in
-    let same : room_of (written_in s) facts ≡ room_of (written_in s) (after_all s.state.facts es) =
-    ap (room_of (written_in s)) f.facts_are in
-    omega (arith, may.still_roomy, same)
-
 filled_less : (clients : Meaning) (s : StoreValue) (facts : Facts) (es : List Entry)
     (framed : List ℕ) → Filled clients s facts es framed → left_of facts < left_of s.state.facts
 filled_less clients s facts es framed f =
@@ -223,15 +217,19 @@ filled_less clients s facts es framed f =
     let same : left_of facts ≡ left_of (after_all s.state.facts es) = ap left_of f.facts_are in
     omega (arith, fewer, same, f.some)
 
--- a store after the steps, with its file, format, generation and limit as before
-pub record Came (s new : StoreValue) (facts : Facts) : Type 0 where
+-- ---- the frame waits
+
+-- a store after the steps, of which the frame waits
+pub record Came (s new : StoreValue) (facts : Facts) (framed : List ℕ) : Type 0 where
   pub facts_are : new.state.facts ≡ facts
   pub file : new.file ≡ s.file
   pub format : new.format ≡ s.format
   pub generation : new.generation ≡ s.generation
+  pub end : new.end ≡ s.end + length framed
   pub limit : new.limit ≡ s.limit
-
--- ---- the frame was written
+  pub closed : new.closed ≡ false
+  pub joins : JoinsFrame framed s.waiting new.waiting
+  pub long : length new.waiting ≡ length s.waiting + length framed
 
 filled_len : (clients : Meaning) (s : StoreValue) (facts : Facts) (es : List Entry)
     (framed : List ℕ) → Filled clients s facts es framed
@@ -243,102 +241,74 @@ filled_len clients s facts es framed f =
       batch_len_same (written_in s) (names_of s.state.facts) es,
     )
 
-filled_gains : (clients : Meaning) (s new : StoreValue) (facts : Facts) (es : List Entry)
-    (framed : List ℕ) → Filled clients s facts es framed → Came s new facts
-    → new.end ≡ s.end + length framed
-    → new.closed ≡ false → GainsBatch s new es
-filled_gains clients s new facts es framed f came end closed = record {
+pub filled_gains : (clients : Meaning) (s new : StoreValue) (facts : Facts) (es : List Entry)
+    (framed : List ℕ) → Filled clients s facts es framed → Came s new facts framed
+    → GainsBatch s new es
+filled_gains clients s new facts es framed f came = record {
   facts = came.facts_are ∙ f.facts_are;
   file = came.file;
   format = came.format;
   generation = came.generation;
-  end = omega (arith, end, filled_len clients s facts es framed f);
+  end = omega (arith, came.end, filled_len clients s facts es framed f);
   limit = came.limit;
-  closed = closed;
+  closed = came.closed;
 }
 
-pub filled_ok : JournalsStand → (clients : Meaning) (s new : StoreValue) (facts : Facts)
-    (es : List Entry) (framed : List ℕ) (o o' : Outside) → Filled clients s facts es framed
-    → Came s new facts
-    → new.end ≡ s.end + length framed → new.closed ≡ false
-    → ((two : Two File) → o.files ≡ Some two
-    → PassedMoments two o o' s.file (BeforeOrWith (file_of two s.file).now s.end framed))
-    → RelatesTold (AppendsFrame s.file s.end framed) o.files o'.files → MakesJust 4 o o'
-    → ComesBy clients s new o o' (es ∷ [])
-filled_ok stand clients s new facts es framed o o' f came end closed passed becomes made = record {
-  settling = ((f.some, f.few, f.settling), tt);
-  facts = came.facts_are ∙ f.facts_are;
-  file = came.file;
-  format = came.format;
-  generation = came.generation;
-  limit = came.limit;
-  end = λ still. omega (arith, end, filled_len clients s facts es framed f, f.long);
-  leads = λ two told j fits.
-      leads_one clients j es new tt o o'
-      (adds_ok stand clients s new j two es framed tt o o' fits
-      (filled_may clients s facts es framed f) told (passed two told) becomes
-      (filled_gains clients s new facts es framed f came end closed));
-  calls = calls_one new o o' made;
-}
+-- its frame is one that may be added
+pub filled_framed : (clients : Meaning) (s : StoreValue) (facts : Facts) (es : List Entry)
+    (framed : List ℕ) → Filled clients s facts es framed → IsFramed framed
+filled_framed clients s facts es framed f = (filled_may clients s facts es framed f).is_framed
 
--- the disk failed
-pub filled_err : JournalsStand → (clients : Meaning) (s new : StoreValue) (facts : Facts)
-    (es : List Entry) (framed : List ℕ) (e : StoreFault) (o o' : Outside)
+pub filled_store : StoreLaws → (clients : Meaning) (s new : StoreValue) (facts : Facts)
+    (es : List Entry) (framed : List ℕ) → Filled clients s facts es framed
+    → Came s new facts framed → IsStore new
+filled_store laws clients s new facts es framed f came =
+    grown_store laws clients s new es framed f.store (filled_may clients s facts es framed f)
+    (filled_gains clients s new facts es framed f came)
+    (joins_group framed s.waiting new.waiting came.joins f.store.waits)
+
+filled_joins : (clients : Meaning) (s new : StoreValue) (facts : Facts) (es : List Entry)
+    (framed : List ℕ) → Filled clients s facts es framed → Came s new facts framed
+    → HasGroupRoom s → (rest : List (List Entry))
+    → groups_for (written_in s) (group_len s.waiting) (es ∷ rest)
+    ≡ groups_for (written_in s) (group_len new.waiting) rest
+filled_joins clients s new facts es framed f came room rest =
+    let some = group_some s.waiting f.store.waits in
+    let longer : group_len s.waiting + (5 + payload_len (written_in s) es) ≡ group_len new.waiting =
+    omega (arith, filled_len clients s facts es framed f, came.long, some) in
+    joins_those (written_in s) (group_len s.waiting) es rest (omega (arith, room, some))
+    ∙ ap (λ n. groups_for (written_in s) n rest) longer
+
+-- the batch was gathered, by an answer that suits it
+pub filled_steps : (clients : Meaning) (s new : StoreValue) (facts : Facts)
+    (es : List Entry) (framed : List ℕ) (result : Result (Unit {0}) StoreFault)
     → Filled clients s facts es framed
-    → Came s new facts → e ≡ fault.DiskFault → new.closed ≡ true
-    → ((two : Two File) → o.files ≡ Some two
-    → PassedMoments two o o' s.file (BeforeOrWith (file_of two s.file).now s.end framed))
-    → MakesAtMost 4 o o' → MakesBatch clients s new (Err e) o o'
-filled_err stand clients s new facts es framed e o o' f came is closed passed made = record {
-  more = es ∷ [];
-  comes = record {
-    settling = ((f.some, f.few, f.settling), tt);
-    facts = came.facts_are ∙ f.facts_are;
-    file = came.file;
-    format = came.format;
-    generation = came.generation;
-    limit = came.limit;
-    end = λ still. true≢false new.closed closed still;
-    leads = λ two told j fits.
-        leads_one_closed clients j es new e o o'
-        (adds_err stand clients s new j two es framed e o o' fits
-        (filled_may clients s facts es framed f) (passed two told) closed) closed;
-    calls = calls_closed new o o' closed made;
-  };
-  few = omega arith;
-  answer = subst (λ (x : StoreFault). BatchSo clients s new (es ∷ []) (Err x)) (sym is) closed;
-}
-
--- memory was wanting for the steps behind them
-pub filled_memory : JournalsStand → (clients : Meaning) (s new : StoreValue) (facts : Facts)
-    (es : List Entry) (framed : List ℕ) (e : StoreFault) (o o' : Outside)
-    → Filled clients s facts es framed
-    → Came s new facts → new.end ≡ s.end + length framed → new.closed ≡ false → e ≡ fault.Memory
-    → ((two : Two File) → o.files ≡ Some two
-    → PassedMoments two o o' s.file (BeforeOrWith (file_of two s.file).now s.end framed))
-    → RelatesTold (AppendsFrame s.file s.end framed) o.files o'.files → MakesJust 4 o o'
-    → MakesBatch clients s new (Err e) o o'
-filled_memory stand clients s new facts es framed e o o' f came end closed is passed becomes made =
+    → Came s new facts framed → HasGroupRoom s → GathersSo clients s new (es ∷ []) result
+    → GathersSteps clients s new result
+filled_steps clients s new facts es framed result f came room so =
+    let may = filled_may clients s facts es framed f in
+    let gains = filled_gains clients s new facts es framed f came in
     record {
       more = es ∷ [];
-      comes =
-          filled_ok stand clients s new facts es framed o o' f came end closed passed becomes made;
       few = omega arith;
-      answer = subst (λ (x : StoreFault). BatchSo clients s new (es ∷ []) (Err x)) (sym is) closed;
+      settling = ((f.some, f.few, f.settling), tt);
+      facts = gains.facts;
+      format = came.format;
+      end = omega (arith, came.end, filled_len clients s facts es framed f, f.long);
+      gathers = λ before waits g.
+          gathered_more clients before s new waits es framed g may gains came.joins came.long room;
+      joins = filled_joins clients s new facts es framed f came room;
+      closed = came.closed;
+      answer = so;
     }
 
 -- the batch is full, or no step is left
-pub filled_whole : JournalsStand → (clients : Meaning) (s new : StoreValue) (facts : Facts)
-    (es : List Entry) (framed : List ℕ) (n : ℕ) (u : Unit {0}) (o o' : Outside)
-    → Filled clients s facts es framed
-    → Came s new facts → new.end ≡ s.end + length framed → new.closed ≡ false
-    → ((two : Two File) → o.files ≡ Some two
-    → PassedMoments two o o' s.file (BeforeOrWith (file_of two s.file).now s.end framed))
-    → RelatesTold (AppendsFrame s.file s.end framed) o.files o'.files → MakesJust 4 o o'
+pub filled_whole : (clients : Meaning) (s new : StoreValue) (facts : Facts)
+    (es : List Entry) (framed : List ℕ) (n : ℕ) (u : Unit {0}) → Filled clients s facts es framed
+    → Came s new facts framed → HasGroupRoom s
     → length es ≡ n → (n ≡ MAX_STEPS) ⊎ IsSettled clients facts
-    → MakesBatch clients s new (Ok u) o o'
-filled_whole stand clients s new facts es framed n u o o' f came end closed passed becomes made long
-    full =
+    → GathersSteps clients s new (Ok u)
+filled_whole clients s new facts es framed n u f came room long full =
     let less : left_of new.state.facts < left_of s.state.facts =
     subst (λ (g : Facts). left_of g < left_of s.state.facts) (sym came.facts_are)
     (filled_less clients s facts es framed f) in
@@ -347,23 +317,24 @@ filled_whole stand clients s new facts es framed n u o o' f came end closed pass
       | inl all ↦ inl (long ∙ all, tt)
       | inr settled ↦ inr (subst (λ (g : Facts). IsSettled clients g) (sym came.facts_are) settled)
     ] in
-    record {
-      more = es ∷ [];
-      comes =
-          filled_ok stand clients s new facts es framed o o' f came end closed passed becomes made;
-      few = omega arith;
-      answer = (closed, less, each);
-    }
+    filled_steps clients s new facts es framed (Ok u) f came room (less, each)
 
 -- no step was made: memory was wanting
-pub made_none : (clients : Meaning) (s new : StoreValue) (e : StoreFault) (o o' : Outside)
-    → ComesBy clients s new o o' [] → e ≡ fault.Memory → new.closed ≡ false
-    → MakesBatch clients s new (Err e) o o'
-made_none clients s new e o o' comes is still = record {
+pub starved_none : (clients : Meaning) (s new : StoreValue) (e : StoreFault) → IsSame s new
+    → new.limit ≡ s.limit → new.closed ≡ false → e ≡ fault.Memory → GathersSteps clients s new (Err e)
+starved_none clients s new e same limit still is = record {
   more = [];
-  comes = comes;
   few = omega arith;
-  answer = subst (λ (x : StoreFault). BatchSo clients s new [] (Err x)) (sym is) still;
+  settling = tt;
+  facts = same.facts;
+  format = same.format;
+  end = omega (arith, same.end);
+  gathers = λ before waits g.
+      subst (HasGathered clients before new) (sym (append-nil waits))
+      (gathered_same clients before s new waits g same limit);
+  joins = λ rest. ap (λ w. groups_for (written_in s) (group_len w) rest) (sym same.waiting);
+  closed = still;
+  answer = subst (λ (x : StoreFault). GathersSo clients s new [] (Err x)) (sym is) tt;
 }
 
 -- ---- what tests say

@@ -6,6 +6,10 @@ mod FormatLaws
 mod OldKinds
 mod Framing
 mod FitSteps
+mod GroupSteps
+mod GroupCounts
+mod Gathered
+mod SettleLoop
 mod Steps
 mod SettleSteps
 mod BeginSteps

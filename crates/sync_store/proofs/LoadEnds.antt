@@ -1,5 +1,5 @@
 -- The begin and the end of a load.
-use Rattle.std.proofs.Common.{◌≡◌, ℕ, ◌+◌, ◌≤◌, false, List, [], length, map, take, refl, sym, ap}
+use Rattle.std.proofs.Common.{◌≡◌, ℕ, ◌+◌, ◌≤◌, false, List, [], ◌∷◌, length, map, take, refl, sym, ap}
 use Rattle.std.proofs.Common.{unwrap_or}
 use Rattle.std.proofs.Common.{subst, ◌∙◌, arith}
 use Rattle.std.specs.Prelude.{Option, None, Some, Ok, Err}
@@ -16,6 +16,7 @@ use Rattle.outside.specs.Outside.{AnyImage, DiskRun, IsNow, Moment, OnlyReads, O
 use Rattle.outside.specs.Disk.{RelatesTold}
 use Rattle.outside.proofs.CallSteps.{becomes_told, moments_map, moments_then}
 use Rattle.outside.specs.declared.disk.Place.{Place}
+use Rattle.frame_journal.specs.Group.{group_len}
 use Rattle.frame_journal.specs.Journal.{JournalValue, is_format}
 use Rattle.frame_journal.specs.Header.{StartsJournal}
 use Rattle.frame_journal.specs.declared.fault.StartFault.{StartFault}
@@ -250,6 +251,7 @@ store_of j s limit =
       format = j.format;
       generation = j.generation;
       end = j.end;
+      waiting = 0 ∷ [];
       limit = limit;
       closed = false;
     }
@@ -269,6 +271,7 @@ fits_loaded clients o0 o1 o2 j s limit settles same all two told =
     (payloads (format_meant j.format) nothing read.done) in (
       read.done,
       record {
+        none_waits = refl;
         first_settled = settled_first old.0 two old.2;
         second_settled = settled_second old.0 two old.2;
         stands_for = stand.stands_for;
@@ -314,6 +317,17 @@ pub ready_loaded : (clients : Meaning) (o0 o1 o2 : Outside) (j : JournalValue) (
 ready_loaded clients o0 o1 o2 j s limit settles same all =
     record {
       still_open = refl;
+      none_waits = refl;
       knows = all.so_far.knows;
       fits = fits_loaded clients o0 o1 o2 j s limit settles same all;
     }
+
+-- the store as it is made, with no frame that waits
+pub loads_at : (j : JournalValue) (s : StateValue) (limit : ℕ) (waiting : List ℕ)
+    → waiting ≡ 0 ∷ []
+    → record (store_of j s limit) { end = j.end + group_len waiting; waiting = waiting }
+    ≡ store_of j s limit
+loads_at j s limit waiting none =
+    let at : j.end + group_len waiting ≡ j.end = omega (arith, ap group_len none) in
+    ap (λ (e : ℕ). record (store_of j s limit) { end = e; waiting = waiting }) at
+    ∙ ap (λ (w : List ℕ). record (store_of j s limit) { waiting = w }) none

@@ -1,6 +1,6 @@
 -- A journal written anew, as the store sees it.
-use Rattle.std.proofs.Common.{◌≡◌, ℕ, true, false, List, [], ◌++◌, Option, Some, Result, Ok}
-use Rattle.std.proofs.Common.{Err, refl, sym, ap, ◌∙◌, subst, append-nil}
+use Rattle.std.proofs.Common.{◌≡◌, ℕ, true, false, List, [], ◌∷◌, ◌++◌, Option, Some, Result, Ok}
+use Rattle.std.proofs.Common.{Err, refl, sym, ap, ◌∙◌, subst, append-nil, ◌+◌, arith}
 use Rattle.std.specs.List.{AllByRecursion}
 use Rattle.std.specs.Option.{ForSome}
 use Rattle.outside.specs.Disk.{RelatesTold}
@@ -9,6 +9,7 @@ use Rattle.outside.specs.Frames.{HasFrames, format_in}
 use Rattle.outside.specs.Links.{sent_of}
 use Rattle.outside.specs.Outside.{DiskRun, MomentsAre, Outside}
 use Rattle.outside.proofs.CallSteps.{becomes_told, moments_map, told_back}
+use Rattle.frame_journal.specs.Group.{group_len}
 use Rattle.frame_journal.specs.Journal.{JournalValue}
 use Rattle.sync_rules.specs.declared.entries.Entry.{Entry}
 use Rattle.sync_rules.specs.Clients.{Meaning}
@@ -36,7 +37,14 @@ use Rattle.sync_store.proofs.FormatLaws.{whole_is_one}
 -- ---- no call of the disk
 
 pub same_self : (s : StoreValue) → IsSame s s
-same_self s = record { facts = refl; file = refl; format = refl; generation = refl; end = refl }
+same_self s = record {
+  facts = refl;
+  file = refl;
+  format = refl;
+  generation = refl;
+  end = refl;
+  waiting = refl;
+}
 
 between_none : (j : List (List Entry)) → IsBetween j [] j
 between_none j = record { front = []; rest = []; parts = refl; is = sym (append-nil j) }
@@ -77,9 +85,40 @@ moved_with s state n =
       format = n.format;
       generation = n.generation;
       end = n.end;
+      waiting = 0 ∷ [];
       limit = s.limit;
       closed = s.closed;
     }
+
+-- a store of which none waits, with this state and this journal
+pub lies_at : (s : StoreValue) (state : StateValue) (n : JournalValue) (waiting : List ℕ)
+    → waiting ≡ 0 ∷ []
+    → record s {
+      state = state;
+      file = n.file;
+      format = n.format;
+      generation = n.generation;
+      end = n.end + group_len waiting;
+      waiting = waiting;
+    } ≡ moved_with s state n
+lies_at s state n waiting none =
+    let at : n.end + group_len waiting ≡ n.end = omega (arith, ap group_len none) in
+    ap (λ (e : ℕ). record s {
+      state = state;
+      file = n.file;
+      format = n.format;
+      generation = n.generation;
+      end = e;
+      waiting = waiting;
+    }) at
+    ∙ ap (λ (w : List ℕ). record s {
+      state = state;
+      file = n.file;
+      format = n.format;
+      generation = n.generation;
+      end = n.end;
+      waiting = w;
+    }) none
 
 -- the store with its journal there
 abbrev pub moved_to : StoreValue → JournalValue → StoreValue
@@ -104,6 +143,7 @@ pub fits_at : (clients : Meaning) (s : StoreValue) (state : StateValue) (n : Jou
     → HoldsSecond clients n j two
     → FitsFiles clients (moved_with s state n) j two
 fits_at clients s state n j two facts_are short holds = record {
+  none_waits = refl;
   first_settled = holds.first_settled;
   second_settled = holds.second_settled;
   stands_for = holds.stands_for;
@@ -130,6 +170,7 @@ fits_still : (clients : Meaning) (s : StoreValue) (j : List (List Entry)) (two t
     → file_of two' s.file ≡ file_of two s.file
     → FitsFiles clients s j two'
 fits_still clients s j two two' fits holds same = record {
+  none_waits = fits.none_waits;
   first_settled = holds.first_settled;
   second_settled = holds.second_settled;
   stands_for = holds.stands_for;

@@ -1,11 +1,12 @@
 -- Runs of a store's calls, one behind the other: for whoever calls a store more than once.
-use Rattle.std.proofs.Common.{◌≡◌, ℕ, ◌≤◌, true, false, List, [], ◌∷◌, ◌++◌, Some, Result, Ok, Err}
-use Rattle.std.proofs.Common.{refl, sym, ap, ◌∙◌, subst, append-nil, arith}
+use Rattle.std.proofs.Common.{◌≡◌, ℕ, ◌+◌, ◌≤◌, true, false, List, [], ◌∷◌, ◌++◌, Option, Some, Result, Ok, Err}
+use Rattle.std.proofs.Common.{refl, sym, ap, ◌∙◌, subst, append-nil, length-append, arith}
 use Rattle.std.specs.Prelude.{IsErrOf}
 use Rattle.outside.specs.Faults.{CountRose}
 use Rattle.outside.specs.Files.{Two, File}
 use Rattle.outside.specs.Links.{sent_of}
 use Rattle.outside.specs.Outside.{Outside, DiskRun, MakesAtMost, MakesCalls, MakesJust}
+use Rattle.frame_journal.specs.Group.{IsGroup}
 use Rattle.outside.proofs.CallSteps.{moments_none, run_none, run_then}
 use Rattle.sync_rules.specs.declared.entries.Entry.{Entry}
 use Rattle.sync_rules.specs.Clients.{Meaning}
@@ -20,10 +21,14 @@ use Rattle.sync_store.specs.Store.{StoreValue, HasNumbers, IsStore, counts_to, f
 use Rattle.sync_store.specs.Store.{written_in}
 use Rattle.sync_store.specs.Commits.{AnswersCommit, KeepsStore, UnaskedDisk, needed}
 use Rattle.sync_store.specs.Fitting.{FitsFiles, ImagesStand}
-use Rattle.sync_store.specs.Moments.{RunsCommit, IsBetween, JournalMoment}
+use Rattle.sync_store.specs.Ready.{IsReady}
+use Rattle.sync_store.specs.Gathering.{SettlesOut}
+use Rattle.sync_store.specs.Moments.{RunsCommit, IsBetween, JournalMoment, groups_for}
 use Rattle.sync_store.specs.Runs.{AddsBatch, ExtendsSo, HasExtended, LeadsBy, RunsBy, committed_by}
 use Rattle.sync_store.specs.Settling.{HasSettled, SettlesSo}
 use Rattle.sync_store.proofs.FitSteps.{IsSame, fits_same, true≢false}
+use Rattle.sync_store.proofs.GroupCounts.{few_groups}
+use Rattle.sync_store.proofs.Growth.{ready_same}
 use Rattle.sync_store.proofs.SettleSteps.{calls_closed, calls_none, calls_one, calls_runs}
 use Rattle.sync_store.proofs.SettleSteps.{leads_one, leads_one_closed, leads_then}
 
@@ -37,11 +42,13 @@ same_store s new stays =
       format = stays.format;
       generation = stays.generation;
       end = stays.end;
+      waiting = stays.waiting;
     }
 
 -- a store that all is as before of keeps what it kept
 store_back : (s new : StoreValue) → KeepsStore s new → IsStore new → IsStore s
 store_back s new stays store = record {
+  waits = subst IsGroup stays.waiting store.waits;
   limited = omega (arith, stays.limit, store.limited);
   roomy =
       omega (
@@ -59,9 +66,9 @@ store_back s new stays store = record {
 }
 
 -- no call was made of the disk
-pub runs_none : ImagesStand → (clients : Meaning) (s new : StoreValue) (o : Outside) → IsStore s
-    → KeepsStore s new → RunsBy clients s new o o []
-runs_none images clients s new o store stays = record {
+pub runs_nothing : ImagesStand → (clients : Meaning) (s new : StoreValue) (o : Outside) → IsStore s
+    → KeepsStore s new → (r : RunsBy clients s new o o []) × (r.groups ≡ 0)
+runs_nothing images clients s new o store stays = (record {
   goes_on = tt;
   facts = λ still. stays.facts;
   file = stays.file;
@@ -88,8 +95,14 @@ runs_none images clients s new o store stays = record {
               (fits_same clients s new j two fits (same_store s new stays)),
         );
   };
+  groups = 0;
+  few = omega arith;
   calls = calls_none new o;
-}
+}, refl)
+
+pub runs_none : ImagesStand → (clients : Meaning) (s new : StoreValue) (o : Outside) → IsStore s
+    → KeepsStore s new → RunsBy clients s new o o []
+runs_none images clients s new o store stays = (runs_nothing images clients s new o store stays).0
 
 -- ---- one commit
 
@@ -108,6 +121,8 @@ runs_committed clients s new batch u o o' allowed commits run made adds = record
   limit = commits.2.limit;
   run = run;
   leads = λ two told j fits. leads_one clients j batch new u o o' (adds two told j fits);
+  groups = 1;
+  few = omega arith;
   calls = calls_one new o o' made;
 }
 
@@ -129,6 +144,8 @@ runs_broken clients s new batch o o' allowed commits run made adds = record {
   leads = λ two told j fits.
       leads_one_closed clients j batch new fault.DiskFault o o' (adds two told j fits)
       commits.2.closed;
+  groups = 1;
+  few = omega arith;
   calls = calls_closed new o o' commits.2.closed made;
 }
 
@@ -174,18 +191,20 @@ runs_settled clients s new result o o' has run = record {
   limit = has.comes.limit;
   run = run;
   leads = has.comes.leads;
+  groups = groups_for (written_in s) 0 has.more;
+  few = few_groups (written_in s) has.more;
   calls = has.comes.calls;
 }
 
 -- ---- one run behind another
 
-pub runs_then : (clients : Meaning) (s0 s1 s2 : StoreValue) (o0 o1 o2 : Outside)
-    (xs ys : List (List Entry)) → s1.closed ≡ false → RunsBy clients s0 s1 o0 o1 xs
-    → RunsBy clients s1 s2 o1 o2 ys
-    → RunsBy clients s0 s2 o0 o2 (xs ++ ys)
-runs_then clients s0 s1 s2 o0 o1 o2 xs ys still first second =
+pub runs_both : (clients : Meaning) (s0 s1 s2 : StoreValue) (o0 o1 o2 : Outside)
+    (xs ys : List (List Entry)) → s1.closed ≡ false → (first : RunsBy clients s0 s1 o0 o1 xs)
+    (second : RunsBy clients s1 s2 o1 o2 ys)
+    → (r : RunsBy clients s0 s2 o0 o2 (xs ++ ys)) × (r.groups ≡ first.groups + second.groups)
+runs_both clients s0 s1 s2 o0 o1 o2 xs ys still first second =
     let f = s0.state.facts in
-    record {
+    (record {
       goes_on =
           goes_on_both clients f xs ys first.goes_on
           (subst (λ (g : Facts). GoesOn clients g ys) (first.facts still) second.goes_on);
@@ -198,8 +217,17 @@ runs_then clients s0 s1 s2 o0 o1 o2 xs ys still first second =
       limit = second.limit ∙ first.limit;
       run = run_then o0 o1 o2 first.run second.run;
       leads = leads_then clients s0 s1 s2 o0 o1 o2 xs ys still first.run first.leads second.leads;
-      calls = calls_runs s1 s2 o0 o1 o2 xs ys still first.calls second.calls;
-    }
+      groups = first.groups + second.groups;
+      few = omega (arith, first.few, second.few, length-append xs ys);
+      calls = calls_runs s1 s2 o0 o1 o2 first.groups second.groups still first.calls second.calls;
+    }, refl)
+
+pub runs_then : (clients : Meaning) (s0 s1 s2 : StoreValue) (o0 o1 o2 : Outside)
+    (xs ys : List (List Entry)) → s1.closed ≡ false → RunsBy clients s0 s1 o0 o1 xs
+    → RunsBy clients s1 s2 o1 o2 ys
+    → RunsBy clients s0 s2 o0 o2 (xs ++ ys)
+runs_then clients s0 s1 s2 o0 o1 o2 xs ys still first second =
+    (runs_both clients s0 s1 s2 o0 o1 o2 xs ys still first second).0
 
 -- what one run leads to behind another
 pub leads_both : (clients : Meaning) (s0 s1 s2 : StoreValue) (o0 o1 o2 : Outside)
@@ -210,39 +238,35 @@ leads_both clients s0 s1 s2 o0 o1 o2 xs ys still run first second =
 
 -- ---- a batch, and settling behind it
 
-adds_by : (clients : Meaning) (f : Facts) (batch : List Entry) (e : StoreFault)
-    → AddsBatch clients f batch (committed_by batch (Err e))
-adds_by clients f batch fault.DiskFault = (refl, tt, tt)
-adds_by clients f batch fault.Closed = tt
-adds_by clients f batch fault.Full = tt
-adds_by clients f batch fault.Memory = tt
-
 failed_so : (clients : Meaning) (s new : StoreValue) (batch : List Entry) (e : StoreFault)
-    → s.closed ≡ false → AnswersCommit s new batch (Err e)
-    → ExtendsSo clients s new batch (committed_by batch (Err e)) (Err e)
-failed_so clients s new batch fault.Closed opened commits = true≢false s.closed commits.0 opened
-failed_so clients s new batch fault.Full opened commits = (commits.1, refl, commits.2)
-failed_so clients s new batch fault.Memory opened commits =
+    → s.closed ≡ false → AnswersCommit s new batch (Err e) → (e ≡ fault.DiskFault → ⊥)
+    → ExtendsSo clients s new batch [] (Err e)
+failed_so clients s new batch fault.Closed opened commits other =
+    true≢false s.closed commits.0 opened
+failed_so clients s new batch fault.Full opened commits other = (commits.1, refl, commits.2)
+failed_so clients s new batch fault.Memory opened commits other =
     (commits.2.closed ∙ commits.0, commits.1)
-failed_so clients s new batch fault.DiskFault opened commits = (commits.2.closed, commits.1)
+failed_so clients s new batch fault.DiskFault opened commits other = absurd (other refl)
 
--- the batch was not committed
+kept_by : (s new : StoreValue) (batch : List Entry) (e : StoreFault) → s.closed ≡ false
+    → AnswersCommit s new batch (Err e) → (e ≡ fault.DiskFault → ⊥) → KeepsStore s new
+kept_by s new batch fault.Closed opened commits other = commits.1
+kept_by s new batch fault.Full opened commits other = commits.2
+kept_by s new batch fault.Memory opened commits other = commits.2
+kept_by s new batch fault.DiskFault opened commits other = absurd (other refl)
+
+-- the batch was not gathered
 pub extends_failed : ImagesStand → (clients : Meaning) (s new : StoreValue) (batch : List Entry)
-    (e : StoreFault) (D : Type 0) (tells : D → Outside) (d d' : D) → IsStore new
-    → s.closed ≡ false → Allowed clients s.state.facts batch → AnswersCommit s new batch (Err e)
-    → UnaskedDisk (Err e) d d' → DiskRun (tells d) (tells d')
-    → MakesAtMost 4 (tells d) (tells d')
-    → ((two : Two File) → (tells d).files ≡ Some two → (j : List (List Entry))
-    → FitsFiles clients s j two → RunsCommit clients batch (Err e) new (tells d) (tells d') j)
-    → HasExtended clients s new batch (Err e) (tells d) (tells d')
-extends_failed images clients s new batch e D tells d d' store opened allowed commits unasked run
-    made adds = record {
-      more = committed_by batch (Err e);
-      runs =
-          runs_commit images clients s new batch (Err e) D tells d d' store opened allowed commits
-          unasked run (record { just = tt; most = made }) adds;
-      adds = adds_by clients s.state.facts batch e;
-      answer = failed_so clients s new batch e opened commits;
+    (e : StoreFault) (o : Outside) → IsStore s → s.closed ≡ false → AnswersCommit s new batch (Err e)
+    → (e ≡ fault.DiskFault → ⊥) → HasExtended clients s new batch (Err e) o o
+extends_failed images clients s new batch e o store opened commits other =
+    let none = runs_nothing images clients s new o store (kept_by s new batch e opened commits other) in
+    record {
+      more = [];
+      runs = none.0;
+      adds = tt;
+      counted = none.1;
+      answer = failed_so clients s new batch e opened commits other;
     }
 
 settled_so : (clients : Meaning) (s new : StoreValue) (batch : List Entry)
@@ -255,65 +279,46 @@ settled_so clients s new batch rest (Err fault.Full) roomy so = absurd so
 settled_so clients s new batch rest (Err fault.Memory) roomy so = (so, roomy)
 settled_so clients s new batch rest (Err fault.DiskFault) roomy so = (so, roomy)
 
--- the batch was committed, and the store settled as far as its answer says
+-- the batch was gathered, and the store settled as far as its answer says
 pub extends_settled : (clients : Meaning) (s mid new : StoreValue) (batch : List Entry)
-    (u : Unit {0}) (result : Result (Unit {0}) StoreFault) (o o1 o2 : Outside)
-    → Allowed clients s.state.facts batch
-    → AnswersCommit s mid batch (Ok u) → DiskRun o o1 → MakesJust 4 o o1
-    → ((two : Two File) → o.files ≡ Some two → (j : List (List Entry)) → FitsFiles clients s j two
-    → RunsCommit clients batch (Ok u) mid o o1 j)
-    → HasSettled clients mid new result o1 o2 → DiskRun o1 o2
-    → HasExtended clients s new batch result o o2
-extends_settled clients s mid new batch u result o o1 o2 allowed commits run made adds has run' =
-    record {
-      more = batch ∷ has.more;
-      runs =
-          runs_then clients s mid new o o1 o2 (batch ∷ []) has.more commits.2.closed
-          (runs_committed clients s mid batch u o o1 allowed commits run made adds)
-          (runs_settled clients mid new result o1 o2 has run');
-      adds = (
-        refl,
-        subst (λ (f : Facts). AllSettling clients f has.more) commits.2.facts
-            has.comes.settling,
-        has.filled,
-      );
-      answer = settled_so clients s new batch has.more result commits.1 has.answer;
-    }
+    (u : Unit {0}) (result : Result (Unit {0}) StoreFault) (o o' : Outside)
+    → AnswersCommit s mid batch (Ok u)
+    → SettlesOut clients s mid new (batch ∷ []) result o o'
+    → HasExtended clients s new batch result o o'
+extends_settled clients s mid new batch u result o o' commits out = record {
+  more = batch ∷ out.more;
+  runs = out.added.runs;
+  adds = (
+    refl,
+    subst (λ (f : Facts). AllSettling clients f out.more) commits.2.facts out.steps.settling,
+    out.steps.filled,
+  );
+  counted = out.added.counted;
+  answer = settled_so clients s new batch out.more result commits.1 out.answer;
+}
 
--- a store that was closed answers so, and does nothing
-pub closed_failed : {D : Type 0} (s new : StoreValue) (batch : List Entry) (e : StoreFault)
-    (d d' : D) → s.closed ≡ true → AnswersCommit s new batch (Err e) → UnaskedDisk (Err e) d d'
-    → (e ≡ fault.Closed) × KeepsStore s new × (d' ≡ d)
-closed_failed s new batch fault.Closed d d' closed commits unasked = (refl, commits.1, unasked)
-closed_failed s new batch fault.Full d d' closed commits unasked =
-    true≢false s.closed closed commits.0
-closed_failed s new batch fault.Memory d d' closed commits unasked =
-    true≢false s.closed closed commits.0
-closed_failed s new batch fault.DiskFault d d' closed commits unasked =
-    true≢false s.closed closed commits.0
-
--- a store that is full made no call on the disk
-pub full_unasked : {D : Type 0} (e : StoreFault) (d d' : D) → e ≡ fault.Full → UnaskedDisk
-    (Err e) d d' → d' ≡ d
-full_unasked fault.Full d d' is unasked = unasked
-full_unasked fault.Closed d d' is unasked = unasked
-full_unasked fault.Memory d d' is unasked = unasked
-full_unasked fault.DiskFault d d' is unasked = cc
+-- a store of which a batch was not gathered is ready as before
+pub ready_failed : (clients : Meaning) (s new : StoreValue) (batch : List Entry) (e : StoreFault)
+    (files : Option (Two File)) → s.closed ≡ false → AnswersCommit s new batch (Err e)
+    → (e ≡ fault.DiskFault → ⊥) → IsReady clients s files → IsReady clients new files
+ready_failed clients s new batch e files opened commits other ready =
+    let stays = kept_by s new batch e opened commits other in
+    ready_same clients s new files ready (same_store s new stays) stays.answers
+    (stays.closed ∙ opened)
 
 -- settling is never full
-pub settled_full : (clients : Meaning) (s new : StoreValue) (result : Result (Unit {0}) StoreFault)
-    (o o' : Outside) → HasSettled clients s new result o o' → IsErrOf result fault.Full → ⊥
-settled_full clients s new (Ok u) o o' has full = cc
-settled_full clients s new (Err fault.Full) o o' has full = has.answer
-settled_full clients s new (Err fault.Closed) o o' has full = has.answer
-settled_full clients s new (Err fault.Memory) o o' has full = cc
-settled_full clients s new (Err fault.DiskFault) o o' has full = cc
-
--- an error that is this one
-pub full_is : (r : Result (Unit {0}) StoreFault) (e : StoreFault) → r ≡ Err e → IsErrOf r fault.Full
-    → e ≡ fault.Full
-full_is r e same is = cc
+pub settled_full : (clients : Meaning) (new : StoreValue) (result : Result (Unit {0}) StoreFault)
+    → SettlesSo clients new result → IsErrOf result fault.Full → ⊥
+settled_full clients new (Ok u) answer full = cc
+settled_full clients new (Err fault.Full) answer full = answer
+settled_full clients new (Err fault.Closed) answer full = answer
+settled_full clients new (Err fault.Memory) answer full = cc
+settled_full clients new (Err fault.DiskFault) answer full = cc
 
 -- a count that rose behind a run rose
 pub rose_later : (a b c : ℕ) → a ≤ b → CountRose b c → CountRose a c
 rose_later a b c later rose = omega arith
+
+-- and one that rose before it
+pub rose_still : (a b c : ℕ) → CountRose a b → b ≤ c → CountRose a c
+rose_still a b c rose later = omega arith

@@ -28,14 +28,13 @@ use Rattle.sync_store.specs.Fitting.{FitsFiles, FitsSome}
 use Rattle.sync_store.specs.Moments.{CallsFor, JournalMoment, LeadsTo, WithAtMost, journal_with}
 use Rattle.sync_store.specs.Moments.{RunsCommit, IsBetween}
 use Rattle.sync_store.specs.Runs.{LeadsBy}
-use Rattle.sync_store.specs.Settling.{AreFilled, BatchSo, ComesBy, HasSettled, IsFullBatch}
-use Rattle.sync_store.specs.Settling.{IsOneBatch, MakesBatch, SettlesSo, settling_len, steps_in}
+use Rattle.sync_store.specs.Settling.{settling_len, steps_in}
 use Rattle.sync_store.proofs.FitSteps.{IsSame, leads_none, true≢false}
 use Rattle.sync_store.proofs.FormatLaws.{room_split, steps_both}
 use Rattle.sync_store.proofs.Steps.{all-append, batches_lower, filled_push, steps_in-append}
 
 -- a weaker word on a run
-leads_map : (clients : Meaning) (P P' Q Q' : List (List Entry) → Type 0) (s : StoreValue)
+pub leads_map : (clients : Meaning) (P P' Q Q' : List (List Entry) → Type 0) (s : StoreValue)
     (o o' : Outside) → ((whole : List (List Entry)) → P whole → P' whole)
     → ((whole : List (List Entry)) → Q whole → Q' whole) → LeadsTo clients P Q s o o'
     → LeadsTo clients P' Q' s o o'
@@ -82,7 +81,7 @@ between_one j batch whole (inr with_it) =
 
 -- ---- no batch, and one
 
--- the calls of no batch, of one, and of batches behind others
+-- the calls of no group, of one, and of groups behind others
 pub calls_none : (s : StoreValue) (o : Outside) → CallsFor 0 s o o
 calls_none s o = record { just = λ still. just_none o; most = most_none 0 o }
 
@@ -95,38 +94,18 @@ pub calls_closed : (s : StoreValue) (o o' : Outside) → s.closed ≡ true → M
 calls_closed s o o' closed most =
     record { just = λ still. true≢false s.closed closed still; most = most }
 
-pub calls_runs : (s1 s2 : StoreValue) (o0 o1 o2 : Outside) (xs ys : List (List Entry))
-    → s1.closed ≡ false → CallsFor (length xs) s1 o0 o1 → CallsFor (length ys) s2 o1 o2
-    → CallsFor (length (xs ++ ys)) s2 o0 o2
-calls_runs s1 s2 o0 o1 o2 xs ys still first second =
-    let all : 4 * length xs + 4 * length ys ≡ 4 * length (xs ++ ys) =
-    omega (arith, length-append xs ys) in
+pub calls_runs : (s1 s2 : StoreValue) (o0 o1 o2 : Outside) (m n : ℕ)
+    → s1.closed ≡ false → CallsFor m s1 o0 o1 → CallsFor n s2 o1 o2
+    → CallsFor (m + n) s2 o0 o2
+calls_runs s1 s2 o0 o1 o2 m n still first second =
+    let all : 4 * m + 4 * n ≡ 4 * (m + n) = omega arith in
     record {
       just = λ opened. subst (λ (n : ℕ). MakesJust n o0 o2) all
-          (just_then (4 * length xs) (4 * length ys) o0 o1 o2 (first.just still)
-          (second.just opened));
+          (just_then (4 * m) (4 * n) o0 o1 o2 (first.just still) (second.just opened));
       most =
           subst (λ (n : ℕ). MakesAtMost n o0 o2) all
-          (most_then (4 * length xs) (4 * length ys) o0 o1 o2 first.most second.most);
+          (most_then (4 * m) (4 * n) o0 o1 o2 first.most second.most);
     }
-
-pub comes_none : JournalsStand → (clients : Meaning) (s new : StoreValue) (o : Outside) → IsStore s
-    → IsSame s new → new.limit ≡ s.limit → ComesBy clients s new o o []
-comes_none stand clients s new o store same limit = record {
-  settling = tt;
-  facts = same.facts;
-  file = same.file;
-  format = same.format;
-  generation = same.generation;
-  limit = limit;
-  end = λ still. omega (arith, same.end);
-  leads = λ two told j fits.
-      leads_none stand clients (IsBetween j []) (λ whole. whole ≡ j ++ []) s new j two o fits
-      store.roomy told same
-      (record { front = []; rest = []; parts = refl; is = sym (append-nil j) })
-      (sym (append-nil j));
-  calls = calls_none new o;
-}
 
 pub leads_one : (clients : Meaning) (j : List (List Entry)) (batch : List Entry) (new : StoreValue)
     (u : Unit {0}) (o o' : Outside) → RunsCommit clients batch (Ok u) new o o' j
@@ -156,7 +135,7 @@ leads_one_closed clients j batch new e o o' adds closed = record {
 
 -- ---- batches and then further ones
 
-settling_len-append : (f : Format) (xs ys : List (List Entry)) → settling_len f
+pub settling_len-append : (f : Format) (xs ys : List (List Entry)) → settling_len f
     (xs ++ ys) ≡ settling_len f xs + settling_len f ys
 settling_len-append f xs ys =
     omega (
@@ -204,46 +183,7 @@ leads_then clients s0 s1 s2 o0 o1 o2 xs ys still run first second two told j fit
           later.ends open' two' told' in (end.0, end.1 ∙ append_assoc j xs ys, end.2);
     }
 
-pub comes_then : (clients : Meaning) (s0 s1 s2 : StoreValue) (o0 o1 o2 : Outside)
-    (xs ys : List (List Entry)) → ComesBy clients s0 s1 o0 o1 xs → s1.closed ≡ false → DiskRun o0 o1
-    → ComesBy clients s1 s2 o1 o2 ys → ComesBy clients s0 s2 o0 o2 (xs ++ ys)
-comes_then clients s0 s1 s2 o0 o1 o2 xs ys first still run second =
-    let f = s0.state.facts in
-    record {
-      settling =
-          settling-append clients f xs ys first.settling
-          (subst (λ (g : Facts). AllSettling clients g ys) first.facts second.settling);
-      facts = second.facts ∙ ap (λ (g : Facts). after_batches g ys) first.facts
-          ∙ sym (after_batches-append f xs ys);
-      file = second.file ∙ first.file;
-      format = second.format ∙ first.format;
-      generation = second.generation ∙ first.generation;
-      limit = second.limit ∙ first.limit;
-      end = λ open'.
-          let same : settling_len (written_in s1) ys ≡ settling_len (written_in s0) ys =
-          ap (λ n. settling_len (format_meant n) ys) first.format in
-          omega (
-            arith,
-            first.end still,
-            second.end open',
-            same,
-            settling_len-append (written_in s0) xs ys,
-          );
-      leads = leads_then clients s0 s1 s2 o0 o1 o2 xs ys still run first.leads second.leads;
-      calls = calls_runs s1 s2 o0 o1 o2 xs ys still first.calls second.calls;
-    }
-
--- at the end the disk fits the store
-pub comes_fits : (clients : Meaning) (s s' : StoreValue) (o o' : Outside) (more : List (List Entry))
-    → DiskRun o o' → ComesBy clients s s' o o' more → FitsSome clients s o.files → s'.closed ≡ false
-    → FitsSome clients s' o'.files
-comes_fits clients s s' o o' more run comes fits still two' told' =
-    let there = told_back o o' two' run.same_told told' in
-    let begun = fits there.0 there.1 in
-    let end = (comes.leads there.0 there.1 begun.0 begun.1).ends still two' told' in
-    (end.0, end.2)
-
--- and so it does after a commit
+-- at the end of a commit the disk fits the store
 pub adds_ready_fits : (clients : Meaning) (s s' : StoreValue) (batch : List Entry)
     (result : Result (Unit {0}) StoreFault) (o o' : Outside) → DiskRun o o'
     → ((two : Two File) → o.files ≡ Some two → (j : List (List Entry)) → FitsFiles clients s j two
@@ -255,99 +195,3 @@ adds_ready_fits clients s s' batch result o o' run adds fits still two' told' =
     let begun = fits there.0 there.1 in
     let end = (adds there.0 there.1 begun.0 begun.1).ends still two' told' in
     (end.0, end.2)
-
--- ---- the loop
-
--- a store was settled by filled batches so far, and each of them is full or no step is left
-pub record SettlesOn (clients : Meaning) (s new : StoreValue) (o o' : Outside) : Type 0 where
-  pub more : List (List Entry)
-  pub comes : ComesBy clients s new o o' more
-  pub filled : AreFilled more
-  pub each : IsOneBatch clients new more
-  pub run : DiskRun o o'
-
-pub settles_begun : JournalsStand → (clients : Meaning) (s : StoreValue) (o : Outside) → IsStore s
-    → SettlesOn clients s s o o
-settles_begun stand clients s o store = record {
-  more = [];
-  comes =
-      comes_none stand clients s s o store (record {
-        facts = refl;
-        file = refl;
-        format = refl;
-        generation = refl;
-        end = refl;
-      }) refl;
-  filled = tt;
-  each = inl tt;
-  run = run_none o;
-}
-
-full_so_far : (clients : Meaning) (s : StoreValue) (more : List (List Entry))
-    → (IsSettled clients s.state.facts → ⊥) → IsOneBatch clients s more
-    → AllByRecursion IsFullBatch more
-full_so_far clients s more unsettled (inl full) = full
-full_so_far clients s more unsettled (inr settled) = absurd (unsettled settled)
-
-each_then : (clients : Meaning) (s : StoreValue) (xs ys : List (List Entry))
-    → AllByRecursion IsFullBatch xs → IsOneBatch clients s ys → IsOneBatch clients s (xs ++ ys)
-each_then clients s xs ys full (inl all) = inl (all-append IsFullBatch xs ys full all)
-each_then clients s xs ys full (inr settled) = inr settled
-
--- one batch more
-pub settles_more : (clients : Meaning) (s0 s1 s2 : StoreValue) (o0 o1 o2 : Outside) (u : Unit {0})
-    → SettlesOn clients s0 s1 o0 o1 → s1.closed ≡ false → (IsSettled clients s1.state.facts → ⊥)
-    → MakesBatch clients s1 s2 (Ok u) o1 o2 → DiskRun o1 o2 → SettlesOn clients s0 s2 o0 o2
-settles_more clients s0 s1 s2 o0 o1 o2 u so_far still unsettled made run =
-    let full = full_so_far clients s1 so_far.more unsettled so_far.each in
-    record {
-      more = so_far.more ++ made.more;
-      comes = comes_then clients s0 s1 s2 o0 o1 o2 so_far.more made.more so_far.comes still
-          so_far.run made.comes;
-      filled = filled_push so_far.more made.more full made.few;
-      each = each_then clients s2 so_far.more made.more full made.answer.2;
-      run = run_then o0 o1 o2 so_far.run run;
-    }
-
--- what settling by some batches answers
-has_settled : (clients : Meaning) (s new : StoreValue) (result : Result (Unit {0}) StoreFault)
-    (o o' : Outside) (more : List (List Entry)) → ComesBy clients s new o o' more → AreFilled more
-    → SettlesSo clients new result → HasSettled clients s new result o o'
-has_settled clients s new result o o' more comes filled answer =
-    let fewer = batches_lower clients s.state.facts more comes.settling in
-    let same : left_of new.state.facts ≡ left_of (after_batches s.state.facts more) =
-    ap left_of comes.facts in
-    record {
-      more = more;
-      comes = comes;
-      filled = filled;
-      room = room_split (written_in s) (left_of new.state.facts) (steps_in more)
-          (left_of s.state.facts) (omega (arith, fewer, same));
-      few = omega (arith, fewer, left_few s.state.facts);
-      answer = answer;
-    }
-
--- no step is left
-pub settled_ok : (clients : Meaning) (s new : StoreValue) (u : Unit {0}) (o o' : Outside)
-    → SettlesOn clients s new o o' → new.closed ≡ false → IsSettled clients new.state.facts
-    → HasSettled clients s new (Ok u) o o'
-settled_ok clients s new u o o' so_far still settled =
-    has_settled clients s new (Ok u) o o' so_far.more so_far.comes so_far.filled (still, settled)
-
-batch_so : (clients : Meaning) (old new : StoreValue) (more : List (List Entry)) (e : StoreFault)
-    → BatchSo clients old new more (Err e) → SettlesSo clients new (Err e)
-batch_so clients old new more fault.Closed answer = answer
-batch_so clients old new more fault.Full answer = answer
-batch_so clients old new more fault.Memory answer = answer
-batch_so clients old new more fault.DiskFault answer = answer
-
--- a batch failed
-pub settled_err : (clients : Meaning) (s0 s1 s2 : StoreValue) (e : StoreFault) (o0 o1 o2 : Outside)
-    → SettlesOn clients s0 s1 o0 o1 → s1.closed ≡ false → (IsSettled clients s1.state.facts → ⊥)
-    → MakesBatch clients s1 s2 (Err e) o1 o2 → HasSettled clients s0 s2 (Err e) o0 o2
-settled_err clients s0 s1 s2 e o0 o1 o2 so_far still unsettled made =
-    has_settled clients s0 s2 (Err e) o0 o2 (so_far.more ++ made.more)
-    (comes_then clients s0 s1 s2 o0 o1 o2 so_far.more made.more so_far.comes still so_far.run
-    made.comes)
-    (filled_push so_far.more made.more (full_so_far clients s1 so_far.more unsettled so_far.each)
-    made.few) (batch_so clients s1 s2 made.more e made.answer)

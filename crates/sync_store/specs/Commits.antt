@@ -29,6 +29,7 @@ pub record KeepsStore (old new : StoreValue) : Type 0 where
   pub format : new.format ≡ old.format
   pub generation : new.generation ≡ old.generation
   pub end : new.end ≡ old.end
+  pub waiting : new.waiting ≡ old.waiting
   pub limit : new.limit ≡ old.limit
   pub closed : new.closed ≡ old.closed
 

@@ -13,11 +13,12 @@ use Rattle.entry_codec.specs.Spelling.{IsEntry, IsOfFormat}
 use Rattle.entry_codec.specs.Standing.{journal, room_of}
 use Rattle.file_standing.specs.Standing.{stands}
 use Rattle.outside.specs.declared.limits.TheConstants.{MAX_JOURNAL}
-use Rattle.sync_store.specs.Store.{StoreValue, written_in}
+use Rattle.sync_store.specs.Store.{NoneWaits, StoreValue, written_in}
 
 pub record FitsFiles (clients : Meaning) (s : StoreValue) (j : List (List Entry))
     (two : Two File) : Type 0 where
-  -- nothing is pending in either file
+  -- no frame waits, and nothing is pending in either file
+  pub none_waits : NoneWaits s
   pub first_settled : NothingPending two 0
   pub second_settled : NothingPending two 1
   -- they stand for the journal, which has the store's facts

@@ -1,5 +1,7 @@
 -- A store as its fields show it.
 use Rattle.sync_store.specs.declared.store.Store.TheInside.{Inside}
+use Rattle.std.specs.Prelude.{◌+◌}
+use Rattle.frame_journal.specs.Group.{group_len}
 use Rattle.sync_store.specs.Store.{StoreValue}
 
 abbrev pub value_of : Inside → StoreValue
@@ -8,7 +10,8 @@ value_of s = record {
   file = s.journal.file;
   format = s.journal.format;
   generation = s.journal.generation;
-  end = s.journal.end;
+  end = s.journal.end + group_len s.waiting;
+  waiting = s.waiting;
   limit = s.limit;
   closed = s.closed;
 }

@@ -8,6 +8,8 @@ pub mod Begin
 pub mod Commits
 pub mod Settling
 pub mod Runs
+pub mod Groups
+pub mod Gathering
 pub mod Rooms
 pub mod Migrations
 pub mod Compactions

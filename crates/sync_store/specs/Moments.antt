@@ -1,11 +1,16 @@
 -- What a run of a store's calls leaves at each moment, and at its end, in words of the whole
 -- journal that the files stand for.
-use Rattle.std.specs.Prelude.{◌≡◌, ◌⊎◌, ℕ, ◌*◌, false, List, [], ◌∷◌, ◌++◌, Some, Result, Ok, Err}
+use Rattle.std.specs.Prelude.{◌≡◌, ◌⊎◌, ◌==◌, ℕ, suc, ◌+◌, ◌*◌, nat_le, cond, false, List, [], ◌∷◌}
+use Rattle.std.specs.Prelude.{◌++◌, Some, Result, Ok, Err}
+use Rattle.frame_journal.specs.declared.group.TheConstants.{MAX_GROUP}
+use Rattle.outside.specs.declared.limits.TheConstants.{MAX_FRAME}
 use Rattle.outside.specs.Files.{Two, File}
 use Rattle.outside.specs.Links.{sent_of}
 use Rattle.outside.specs.Outside.{Outside, Moment, MomentsAre, MakesAtMost, MakesJust}
 use Rattle.sync_rules.specs.declared.entries.Entry.{Entry}
 use Rattle.sync_rules.specs.Clients.{Meaning}
+use Rattle.entry_codec.specs.declared.naming.Format.{Format}
+use Rattle.entry_codec.specs.Payloads.{payload_len}
 use Rattle.entry_codec.specs.Standing.{journal}
 use Rattle.file_standing.specs.Standing.{stands}
 use Rattle.sync_store.specs.Store.{StoreValue}
@@ -28,11 +33,21 @@ pub record LeadsTo (clients : Meaning) (P Q : List (List Entry) → Type 0) (s :
   pub ends : s.closed ≡ false → (two : Two File) → new.files ≡ Some two
       → (whole : List (List Entry)) × Q whole × FitsFiles clients s whole two
 
--- How many calls of the disk so many batches take: four each, and where a call failed, so that the
--- store is closed, no more.
-pub record CallsFor (batches : ℕ) (s : StoreValue) (old new : Outside) : Type 0 where
-  pub just : s.closed ≡ false → MakesJust (4 * batches) old new
-  pub most : MakesAtMost (4 * batches) old new
+-- How many calls of the disk it takes to add so many groups of batches: four each, and where a call
+-- failed, so that the store is closed, no more.
+pub record CallsFor (groups : ℕ) (s : StoreValue) (old new : Outside) : Type 0 where
+  pub just : s.closed ≡ false → MakesJust (4 * groups) old new
+  pub most : MakesAtMost (4 * groups) old new
+
+-- How many groups it takes to add batches in a format behind frames of so many bytes that wait: a
+-- batch joins those that wait where the longest frame finds room behind them, and else these are
+-- added before it.
+abbrev pub groups_for : Format → ℕ → List (List Entry) → ℕ
+groups_for format waiting [] = cond (waiting == 0) 0 1
+groups_for format waiting (b ∷ bs) =
+    cond (nat_le (waiting + (MAX_FRAME + 5)) MAX_GROUP)
+    (groups_for format (waiting + (5 + payload_len format b)) bs)
+    (suc (groups_for format (5 + payload_len format b) bs))
 
 -- ---- one batch
 

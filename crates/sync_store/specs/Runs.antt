@@ -1,5 +1,5 @@
 -- A run of a store's calls, told by the one list of batches that it committed.
-use Rattle.std.specs.Prelude.{◌≡◌, ◌≢◌, ◌<◌, ◌≤◌, true, false, List, [], ◌∷◌, ◌++◌, length, Some}
+use Rattle.std.specs.Prelude.{◌≡◌, ◌≢◌, ℕ, ◌<◌, ◌≤◌, true, false, List, [], ◌∷◌, ◌++◌, length, Some}
 use Rattle.std.specs.Prelude.{Result, Ok, Err}
 use Rattle.outside.specs.Files.{Two, File}
 use Rattle.outside.specs.Outside.{Outside, DiskRun}
@@ -8,10 +8,10 @@ use Rattle.sync_rules.specs.Clients.{Meaning}
 use Rattle.sync_rules.specs.Facts.{Facts, after_all, after_batches}
 use Rattle.sync_rules.specs.Legal.{AllSettling, GoesOn}
 use Rattle.sync_rules.specs.Steps.{IsSettled}
-use Rattle.sync_store.specs.Store.{StoreValue}
+use Rattle.sync_store.specs.Store.{StoreValue, written_in}
 use Rattle.sync_store.specs.Commits.{KeepsStore, needed}
 use Rattle.sync_store.specs.Fitting.{FitsFiles}
-use Rattle.sync_store.specs.Moments.{CallsFor, IsBetween, LeadsTo}
+use Rattle.sync_store.specs.Moments.{CallsFor, IsBetween, LeadsTo, groups_for}
 use Rattle.sync_store.specs.Settling.{AreFilled}
 use Rattle.sync_store.specs.declared.fault.StoreFault.{StoreFault}
 use Rattle.sync_store.specs.declared.fault.StoreFault.TheVariants as fault
@@ -27,7 +27,7 @@ LeadsBy clients old new o o' more =
 
 -- A store came by these batches to this one: each of them may follow the journal with those before
 -- it, and unless the store is closed it has them all. No link changed, files that were told still
--- are, no count of failed calls fell, and each batch took four calls of the disk.
+-- are, no count of failed calls fell, and each group of batches took four calls of the disk.
 pub record RunsBy (clients : Meaning) (old new : StoreValue) (o o' : Outside)
     (more : List (List Entry)) : Type 0 where
   pub goes_on : GoesOn clients old.state.facts more
@@ -38,7 +38,9 @@ pub record RunsBy (clients : Meaning) (old new : StoreValue) (o o' : Outside)
   pub limit : new.limit ≡ old.limit
   pub run : DiskRun o o'
   pub leads : LeadsBy clients old new o o' more
-  pub calls : CallsFor (length more) new o o'
+  pub groups : ℕ
+  pub few : groups ≤ length more
+  pub calls : CallsFor groups new o o'
 
 -- the batches of a commit, by its answer: where the disk failed the batch may stand in the files
 abbrev pub committed_by : List Entry → Result (Unit {0}) StoreFault → List (List Entry)
@@ -70,11 +72,13 @@ ExtendsSo clients old new batch more (Err fault.Memory) =
 ExtendsSo clients old new batch more (Err fault.DiskFault) =
     (new.closed ≡ true) × (needed old batch ≤ old.limit)
 
--- a store that is not closed was extended by a batch and settled, as far as the answer says
+-- A store that is not closed was extended by a batch and settled, as far as the answer says: by as few
+-- groups as the frames take.
 pub record HasExtended (clients : Meaning) (old new : StoreValue) (batch : List Entry)
     (result : Result (Unit {0}) StoreFault)
     (o o' : Outside) : Type 0 where
   pub more : List (List Entry)
   pub runs : RunsBy clients old new o o' more
   pub adds : AddsBatch clients old.state.facts batch more
+  pub counted : runs.groups ≡ groups_for (written_in old) 0 more
   pub answer : ExtendsSo clients old new batch more result

@@ -1,21 +1,19 @@
 -- What settling answers, and what stands after each answer: one list of batches tells all of it.
-use Rattle.std.specs.Prelude.{◌≡◌, ◌⊎◌, ℕ, ◌+◌, ◌*◌, ◌<◌, ◌≤◌, true, false, List, [], ◌∷◌, ◌++◌}
+use Rattle.std.specs.Prelude.{◌≡◌, ℕ, ◌+◌, ◌*◌, ◌≤◌, true, false, List, [], ◌∷◌, ◌++◌}
 use Rattle.std.specs.Prelude.{length, Some, Result, Ok, Err}
-use Rattle.std.specs.List.{AllByRecursion}
 use Rattle.outside.specs.Files.{Two, File}
 use Rattle.outside.specs.Outside.{Outside}
 use Rattle.sync_rules.specs.declared.entries.Entry.{Entry}
 use Rattle.sync_rules.specs.declared.limits.TheConstants.{MAX_STEPS}
 use Rattle.sync_rules.specs.Clients.{Meaning}
 use Rattle.sync_rules.specs.Facts.{after_batches}
-use Rattle.sync_rules.specs.Left.{left_of}
 use Rattle.sync_rules.specs.Legal.{AllSettling}
 use Rattle.sync_rules.specs.Steps.{IsSettled}
 use Rattle.entry_codec.specs.declared.naming.Format.{Format}
 use Rattle.entry_codec.specs.Standing.{room_of, step_bytes, step_len}
 use Rattle.sync_store.specs.Store.{StoreValue, written_in}
 use Rattle.sync_store.specs.Fitting.{FitsFiles}
-use Rattle.sync_store.specs.Moments.{CallsFor, IsBetween, LeadsTo}
+use Rattle.sync_store.specs.Moments.{CallsFor, IsBetween, LeadsTo, groups_for}
 use Rattle.sync_store.specs.declared.fault.StoreFault.{StoreFault}
 use Rattle.sync_store.specs.declared.fault.StoreFault.TheVariants as fault
 
@@ -50,7 +48,7 @@ SettlesSo clients new (Err fault.DiskFault) = new.closed ≡ true
 -- A store came by these settling batches to this one. Its facts are those after them, also where
 -- the disk failed at the last of them. At each moment the files stand for the journal with a front
 -- of them, and in the end, unless the store is closed, the disk fits it with the journal and all of
--- them. Each takes four calls of the disk.
+-- them. Each group of them takes four calls of the disk.
 pub record ComesBy (clients : Meaning) (old new : StoreValue) (o o' : Outside)
     (more : List (List Entry)) : Type 0 where
   pub settling : AllSettling clients old.state.facts more
@@ -63,7 +61,7 @@ pub record ComesBy (clients : Meaning) (old new : StoreValue) (o o' : Outside)
   pub leads : (two : Two File) → o.files ≡ Some two → (j : List (List Entry))
       → FitsFiles clients old j two
       → LeadsTo clients (IsBetween j more) (λ whole. whole ≡ j ++ more) new o o'
-  pub calls : CallsFor (length more) new o o'
+  pub calls : CallsFor (groups_for (written_in old) 0 more) new o o'
 
 -- A store that is not closed was settled, as far as the answer says.
 pub record HasSettled (clients : Meaning) (old new : StoreValue)
@@ -76,28 +74,3 @@ pub record HasSettled (clients : Meaning) (old new : StoreValue)
       (written_in old) * steps_in more ≤ room_of (written_in old) old.state.facts
   pub few : steps_in more ≤ 2 * length old.state.facts.held
   pub answer : SettlesSo clients new result
-
--- ---- one batch
-
--- no batch, or one that is full or the last
-abbrev pub IsOneBatch : Meaning → StoreValue → List (List Entry) → Type 0
-IsOneBatch clients new more = (AllByRecursion IsFullBatch more) ⊎ IsSettled clients new.state.facts
-
--- what stands of one batch that was asked for where a step was left
-abbrev pub BatchSo : Meaning → StoreValue → StoreValue → List (List Entry)
-    → Result (Unit {0}) StoreFault → Type 0
-BatchSo clients old new more (Ok _) =
-    (new.closed ≡ false) × (left_of new.state.facts < left_of old.state.facts)
-    × IsOneBatch clients new more
-BatchSo clients old new more (Err fault.Closed) = ⊥
-BatchSo clients old new more (Err fault.Full) = ⊥
-BatchSo clients old new more (Err fault.Memory) = new.closed ≡ false
-BatchSo clients old new more (Err fault.DiskFault) = new.closed ≡ true
-
--- at most one settling batch was made
-pub record MakesBatch (clients : Meaning) (old new : StoreValue)
-    (result : Result (Unit {0}) StoreFault) (o o' : Outside) : Type 0 where
-  pub more : List (List Entry)
-  pub comes : ComesBy clients old new o o' more
-  pub few : length more ≤ 1
-  pub answer : BatchSo clients old new more result

@@ -1,6 +1,8 @@
 -- What contracts see of a store.
-use Rattle.std.specs.Prelude.{ℕ, ◌+◌, ◌≤◌, ◌==◌, Bool, if◌then◌else◌, length, refl}
-use Rattle.std.specs.Coded.{Coded, code_by, coded×, coded_bool, coded_ℕ}
+use Rattle.std.specs.Prelude.{◌≡◌, ℕ, ◌+◌, ◌≤◌, ◌==◌, Bool, if◌then◌else◌, List, [], ◌∷◌, length}
+use Rattle.std.specs.Prelude.{refl}
+use Rattle.std.specs.Coded.{Coded, code_by, coded×, coded_bool, coded_list, coded_ℕ}
+use Rattle.frame_journal.specs.Group.{IsGroup}
 use Rattle.sync_rules.specs.Facts.{Facts, takes_of}
 use Rattle.entry_codec.specs.declared.naming.Format.{Format}
 use Rattle.entry_codec.specs.declared.naming.Format.TheVariants as kind
@@ -9,14 +11,17 @@ use Rattle.journal_state.specs.Whole.{StateValue, state_code}
 use Rattle.outside.specs.declared.limits.TheConstants.{MAX_JOURNAL}
 
 -- The facts of the journal and the judgements of its messages; the number of the journal's file,
--- its format and generation, and the place of its closed gate plus one; the length that commits may
--- fill; and whether a call on the disk failed. The journal itself is not kept.
+-- its format and generation, and the place of its closed gate plus one; the frames that wait to be
+-- added to the file, and a closed gate behind them; the length that commits may fill; and whether a
+-- call on the disk failed. The journal itself is not kept. Facts and end are those of the journal
+-- with the batches whose frames wait.
 pub record StoreValue : Type 0 where
   pub state : StateValue
   pub file : ℕ
   pub format : ℕ
   pub generation : ℕ
   pub end : ℕ
+  pub waiting : List ℕ
   pub limit : ℕ
   pub closed : Bool
 
@@ -30,18 +35,20 @@ written_in s = format_meant s.format
 
 abbrev pub store_code : Coded StoreValue
 store_code =
-    code_by (StateValue × (ℕ × (ℕ × (ℕ × (ℕ × (ℕ × Bool))))))
+    code_by (StateValue × (ℕ × (ℕ × (ℕ × (ℕ × (List ℕ × (ℕ × Bool)))))))
     (coded× state_code (coded× coded_ℕ
-    (coded× coded_ℕ (coded× coded_ℕ (coded× coded_ℕ (coded× coded_ℕ coded_bool))))))
-    (λ s. (s.state, (s.file, (s.format, (s.generation, (s.end, (s.limit, s.closed)))))))
+    (coded× coded_ℕ (coded× coded_ℕ (coded× coded_ℕ
+    (coded× (coded_list coded_ℕ) (coded× coded_ℕ coded_bool)))))))
+    (λ s. (s.state, (s.file, (s.format, (s.generation, (s.end, (s.waiting, (s.limit, s.closed))))))))
     (λ p. record {
       state = p.0;
       file = p.1.0;
       format = p.1.1.0;
       generation = p.1.1.1.0;
       end = p.1.1.1.1.0;
-      limit = p.1.1.1.1.1.0;
-      closed = p.1.1.1.1.1.1;
+      waiting = p.1.1.1.1.1.0;
+      limit = p.1.1.1.1.1.1.0;
+      closed = p.1.1.1.1.1.1.1;
     })
     (λ _. refl)
 
@@ -59,9 +66,14 @@ abbrev pub counts_to : Format → ℕ → ℕ
 counts_to kind.Whole end = end
 counts_to kind.Short end = MAX_JOURNAL + end
 
--- what every store keeps: its limit is one of a journal, settling finds its room, and its counts
--- are bounded by its end and format
+-- what every store keeps: what waits are frames, its limit is one of a journal, settling finds its
+-- room, and its counts are bounded by its end and format
 pub record IsStore (s : StoreValue) : Type 0 where
+  pub waits : IsGroup s.waiting
   pub limited : s.limit ≤ MAX_JOURNAL
   pub roomy : s.end + room_of (written_in s) s.state.facts ≤ MAX_JOURNAL
   pub numbers : HasNumbers s.state.facts (counts_to (written_in s) s.end)
+
+-- no frame waits: there is a closed gate alone
+abbrev pub NoneWaits : StoreValue → Type 0
+NoneWaits s = s.waiting ≡ 0 ∷ []

@@ -113,11 +113,11 @@ impl Store {
         }
         let framed = self.frame(&batch)?;
         self.state.reserve(&batch)?;
-        self.add(disk, clients, framed.as_slice(), batch, id)
+        self.append(disk, clients, framed.as_slice(), batch, id)
     }
 
     // Whether the journal with the batch and the room for settling passes the limit.
-    fn is_full<C: Clients>(&self, clients: &C, batch: &Batch) -> bool
+    pub(crate) fn is_full<C: Clients>(&self, clients: &C, batch: &Batch) -> bool
         requires knows { KnowsJudgements (C.meaning clients.now) self.now.state }
         requires allowed { Allowed (C.meaning clients.now) self.now.state.facts batch.now }
         requires kind { is_settling_kind batch.now ≡ false }
@@ -133,12 +133,12 @@ impl Store {
         let len = batch_len(format, batch) as u64;
         let all = room
             .saturating_add(len)
-            .saturating_add(self.journal.end() + 5);
+            .saturating_add(self.end() + 5);
         self.limit < all
     }
 
     // The batch in its frame.
-    fn frame(&self, batch: &Batch) -> Result<Vec<u8>, AllocError>
+    pub(crate) fn frame(&self, batch: &Batch) -> Result<Vec<u8>, AllocError>
         requires allowed { (clients : Meaning) × Allowed clients self.now.state.facts batch.now }
         requires few { payload_len (written_in self.now) batch.now ≤ MAX_JOURNAL }
         ensures framed { IfOk result (λ v. v.items ≡ framed_of
@@ -151,8 +151,8 @@ impl Store {
         frame_batch(self.alloc, format, &names, batch)
     }
 
-    // Adds the batch in its frame, with no memory.
-    fn add<D: Disk, C: Clients>(
+    // Adds the batch in its frame to the journal, with no memory.
+    fn append<D: Disk, C: Clients>(
         &mut self,
         disk: &mut D,
         clients: &C,

@@ -79,8 +79,11 @@ impl Store {
         ensures fault { IsErrOf result StoreFault.DiskFault
             → CountRose (D.tells disk.old).disk_faults (D.tells disk.new).disk_faults }
     {
+        if self.is_closed() {
+            return Err(StoreFault::Closed);
+        }
         images_stand();
-        self.commit_known(disk, clients, batch, id)?;
-        self.settle(disk, clients)
+        self.gather(clients, batch, id)?;
+        self.settle_gathered(disk, clients)
     }
 }

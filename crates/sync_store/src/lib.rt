@@ -9,6 +9,7 @@ mod extending;
 mod fault;
 mod formats;
 mod frames;
+mod group;
 pub mod laws;
 mod load;
 mod migrating;

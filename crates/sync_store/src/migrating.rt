@@ -75,7 +75,7 @@ impl Store {
         cite_laws();
         let file = self.journal.file();
         let generation = self.journal.generation();
-        let end = self.journal.end();
+        let end = self.end();
         match migrate(self.alloc, disk, file, generation, end, &self.state) {
             Ok(journal) => {
                 self.journal = journal;

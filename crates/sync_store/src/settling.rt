@@ -1,30 +1,27 @@
 //! The steps of a journal, committed until it is settled.
-ghost use Rattle.std.specs.Prelude.{◌≡◌, ◌⊎◌, ◌+◌, ◌≤◌, [], false, true, Err, Some, length};
-ghost use Rattle.std.specs.Prelude.{vec_capacity, vec_len, IfErr, IsErrOf, OnOk};
-ghost use Rattle.std.specs.Option.{ForSome};
+ghost use Rattle.std.specs.Prelude.{◌≡◌, ◌⊎◌, ◌≤◌, [], false, true, Err, List};
+ghost use Rattle.std.specs.Prelude.{vec_capacity, vec_len, IsErrOf, OnOk};
 ghost use Rattle.outside.specs.Faults.{HasCause, CountRose};
-ghost use Rattle.outside.specs.Files.{Two, File, file_of};
-ghost use Rattle.outside.specs.Frames.{IsAtRest};
-ghost use Rattle.outside.specs.Outside.{DiskRun, MakesCalls};
-ghost use Rattle.outside.specs.Disk.{RelatesTold};
-ghost use Rattle.outside.specs.Steps.{PassedMoments};
-ghost use Rattle.frame_journal.specs.Append.{IsFramed, AppendsFrame, BeforeOrWith};
+ghost use Rattle.outside.specs.Outside.{DiskRun};
 ghost use Rattle.journal_state.specs.Whole.{KnowsJudgements};
+ghost use Rattle.sync_rules.specs.declared.entries.Entry.{Entry};
 ghost use Rattle.sync_rules.specs.Facts.{after_all};
 ghost use Rattle.sync_rules.specs.Legal.{IsSettling};
 ghost use Rattle.sync_rules.specs.Steps.{IsSettled};
-ghost use Rattle.entry_codec.specs.Standing.{room_of};
+ghost use Rattle.sync_store.specs.Gathering.{GathersSteps, KeepsJournal, MakesRoom, SettlesOn};
+ghost use Rattle.sync_store.specs.Gathering.{SettlesOut};
+ghost use Rattle.sync_store.specs.Groups.{HasGathered, HasGroupRoom, IsGathering};
 ghost use Rattle.sync_store.specs.Ready.{IsReady};
-ghost use Rattle.sync_store.specs.Store.{IsStore, written_in};
-ghost use Rattle.sync_store.specs.Settling.{HasSettled, MakesBatch};
+ghost use Rattle.sync_store.specs.Store.{IsStore, StoreValue};
+ghost use Rattle.sync_store.specs.Settling.{HasSettled};
 
 use crate::StoreFault;
 use crate::formats::{HeldNames, format_meant};
 use crate::frames::{MOST_FRAMED, frame_steps};
-use crate::laws::cite_laws;
+use crate::laws::{cite_laws, images_stand};
 use crate::store::Store;
 use journal_state::State;
-use outside::{Disk, MAX_JOURNAL};
+use outside::Disk;
 use std::alloc::{AllocError, Global};
 use sync_rules::{Clients, Entry, MAX_STEPS};
 
@@ -34,8 +31,8 @@ impl Store {
     /// commit leaves room for settling. `Closed` comes exactly where an earlier call answered
     /// `DiskFault`; then all is as before, and no call on the disk is made. After `Memory` the
     /// journal is extended by the steps made before it, and after `DiskFault` the store is closed.
-    /// At each moment the files stand for the journal with a front of these batches, each of which
-    /// takes four calls of the disk.
+    /// At each moment the files stand for the journal with a front of these batches. They are added in
+    /// groups, each of at most `MAX_GROUP` bytes and in four calls of the disk.
     pub fn settle<D: Disk, C: Clients>(
         &mut self,
         disk: &mut D,
@@ -58,56 +55,125 @@ impl Store {
         if self.is_closed() {
             return Err(StoreFault::Closed);
         }
-        cite_laws();
-        'batches: while !self.state().is_settled() {
-            self.settle_batch(disk, clients)?;
-        }
-        Ok(())
+        images_stand();
+        self.settle_gathered(disk, clients)
     }
 
-    // Commits one settling batch where a step is left.
-    fn settle_batch<D: Disk, C: Clients>(
+    // Settles the journal behind the batches that wait, and adds all of them to it in groups: as few
+    // as there are, where the longest frame is to find room in each.
+    pub(crate) fn settle_gathered<D: Disk, C: Clients>(
         &mut self,
         disk: &mut D,
         clients: &C,
     ) -> Result<(), StoreFault>
-        requires ready { IsReady (C.meaning clients.now) self.old (D.tells disk.old).files }
-        requires unsettled { IsSettled (C.meaning clients.now) self.old.state.facts → ⊥ }
-        ensures made { MakesBatch (C.meaning clients.now) self.old self.new result
+        requires gathering { IsGathering (C.meaning clients.now) self.old (D.tells disk.old).files }
+        ensures settles { (before : StoreValue) → IsStore before → (waits : List (List Entry))
+            → HasGathered (C.meaning clients.now) before self.old waits
+            → SettlesOut (C.meaning clients.now) before self.old self.new waits result
             (D.tells disk.old) (D.tells disk.new) }
-        ensures knows { KnowsJudgements (C.meaning clients.now) self.new.state }
+        ensures ready { self.new.closed ≡ false
+            → IsReady (C.meaning clients.now) self.new (D.tells disk.new).files }
         ensures run { DiskRun (D.tells disk.old) (D.tells disk.new) }
         ensures numbers { IsStore self.new }
         ensures fault { IsErrOf result StoreFault.DiskFault
             → CountRose (D.tells disk.old).disk_faults (D.tells disk.new).disk_faults }
     {
-        cite_laws();
-        let entries = Vec::with_capacity(self.alloc, MAX_STEPS)?;
-        let framed = Vec::with_capacity(self.alloc, MOST_FRAMED)?;
-        self.settle_into(disk, clients, entries, framed)
+        let settled = self.gather_settling(disk, clients);
+        if self.closed {
+            return settled;
+        }
+        self.flush(disk, clients)?;
+        settled
     }
 
-    // The same, with room for the entries and for their frame.
-    fn settle_into<D: Disk, C: Clients>(
+    // Gathers settling batches until no step is left, each filled while one is. Where a group has no
+    // room for the longest frame it is flushed first.
+    fn gather_settling<D: Disk, C: Clients>(
         &mut self,
         disk: &mut D,
         clients: &C,
-        mut entries: Vec<Entry>,
-        mut framed: Vec<u8>,
     ) -> Result<(), StoreFault>
-        requires ready { IsReady (C.meaning clients.now) self.old (D.tells disk.old).files }
-        requires unsettled { IsSettled (C.meaning clients.now) self.old.state.facts → ⊥ }
-        requires no_entries { entries.items ≡ [] }
-        requires entries_room { MAX_STEPS ≤ vec_capacity entries }
-        requires no_frame { framed.items ≡ [] }
-        requires frame_room { MOST_FRAMED ≤ vec_capacity framed }
-        ensures made { MakesBatch (C.meaning clients.now) self.old self.new result
+        requires gathering { IsGathering (C.meaning clients.now) self.old (D.tells disk.old).files }
+        ensures settles { (before : StoreValue) → IsStore before → (waits : List (List Entry))
+            → HasGathered (C.meaning clients.now) before self.old waits
+            → SettlesOn (C.meaning clients.now) before self.old self.new waits result
             (D.tells disk.old) (D.tells disk.new) }
-        ensures knows { KnowsJudgements (C.meaning clients.now) self.new.state }
+        ensures gathering { self.new.closed ≡ false
+            → IsGathering (C.meaning clients.now) self.new (D.tells disk.new).files }
         ensures run { DiskRun (D.tells disk.old) (D.tells disk.new) }
         ensures numbers { IsStore self.new }
         ensures fault { IsErrOf result StoreFault.DiskFault
             → CountRose (D.tells disk.old).disk_faults (D.tells disk.new).disk_faults }
+    {
+        images_stand();
+        'batches: while !self.state().is_settled() {
+            self.make_room(disk, clients)?;
+            self.gather_steps(clients)?;
+        }
+        Ok(())
+    }
+
+    // Flushes the frames that wait where the longest would find no room behind them.
+    fn make_room<D: Disk, C: Clients>(
+        &mut self,
+        disk: &mut D,
+        clients: &C,
+    ) -> Result<(), StoreFault>
+        requires gathering { IsGathering (C.meaning clients.now) self.old (D.tells disk.old).files }
+        ensures makes { (before : StoreValue) → IsStore before → (waits : List (List Entry))
+            → HasGathered (C.meaning clients.now) before self.old waits
+            → MakesRoom (C.meaning clients.now) before self.new waits result (D.tells disk.old)
+            (D.tells disk.new) }
+        ensures same { KeepsJournal self.old self.new }
+        ensures room { OnOk result (HasGroupRoom self.new) }
+        ensures gathering { OnOk result
+            (IsGathering (C.meaning clients.now) self.new (D.tells disk.new).files) }
+        ensures run { DiskRun (D.tells disk.old) (D.tells disk.new) }
+        ensures numbers { IsStore self.new }
+        ensures fault { HasCause (D.tells disk.old).disk_faults (D.tells disk.new).disk_faults
+            result }
+    {
+        images_stand();
+        if self.has_group_room() {
+            return Ok(());
+        }
+        self.flush(disk, clients)
+    }
+
+    // Gathers one settling batch where a step is left.
+    fn gather_steps<C: Clients>(&mut self, clients: &C) -> Result<(), StoreFault>
+        requires still_open { self.old.closed ≡ false }
+        requires knows { KnowsJudgements (C.meaning clients.now) self.old.state }
+        requires unsettled { IsSettled (C.meaning clients.now) self.old.state.facts → ⊥ }
+        requires room { HasGroupRoom self.old }
+        ensures made { GathersSteps (C.meaning clients.now) self.old self.new result }
+        ensures knows { KnowsJudgements (C.meaning clients.now) self.new.state }
+        ensures numbers { IsStore self.new }
+    {
+        let entries = Vec::with_capacity(self.alloc, MAX_STEPS)?;
+        let framed = Vec::with_capacity(self.alloc, MOST_FRAMED)?;
+        self.gather_into(clients, entries, framed)
+    }
+
+    // The same, with room for the entries and for their frame. The steps are made once nothing can
+    // want memory for their frame.
+    fn gather_into<C: Clients>(
+        &mut self,
+        clients: &C,
+        mut entries: Vec<Entry>,
+        mut framed: Vec<u8>,
+    ) -> Result<(), StoreFault>
+        requires still_open { self.old.closed ≡ false }
+        requires knows { KnowsJudgements (C.meaning clients.now) self.old.state }
+        requires unsettled { IsSettled (C.meaning clients.now) self.old.state.facts → ⊥ }
+        requires room { HasGroupRoom self.old }
+        requires no_entries { entries.items ≡ [] }
+        requires entries_room { MAX_STEPS ≤ vec_capacity entries }
+        requires no_frame { framed.items ≡ [] }
+        requires frame_room { MOST_FRAMED ≤ vec_capacity framed }
+        ensures made { GathersSteps (C.meaning clients.now) self.old self.new result }
+        ensures knows { KnowsJudgements (C.meaning clients.now) self.new.state }
+        ensures numbers { IsStore self.new }
     {
         cite_laws();
         let filled = fill(&mut self.state, self.alloc, clients, &mut entries);
@@ -118,40 +184,9 @@ impl Store {
         let format = format_meant(self.journal.format());
         let names = HeldNames { state: &self.state };
         frame_steps(format, &names, entries.as_slice(), &mut framed);
-        self.write(disk, framed.as_slice())?;
+        self.waiting.add(framed.as_slice());
         filled?;
         Ok(())
-    }
-
-    // Adds a frame to the journal's file, and closes the store where that fails.
-    fn write<D: Disk>(&mut self, disk: &mut D, framed: &[u8]) -> Result<(), StoreFault>
-        requires framed { IsFramed framed.now }
-        requires room { self.old.end + length framed.now
-            + room_of (written_in self.old) self.old.state.facts ≤ MAX_JOURNAL }
-        requires fits { ForSome (D.tells disk.old).files
-            (λ two. IsAtRest two self.old.file self.old.end) }
-        ensures ok { OnOk result
-            (self.new ≡ record self.old { end = self.old.end + length framed.now }) }
-        ensures err { IfErr result (λ e. (e ≡ StoreFault.DiskFault)
-            × (self.new ≡ record self.old { closed = true })) }
-        ensures appended { OnOk result (RelatesTold (AppendsFrame self.old.file self.old.end framed.now)
-            (D.tells disk.old).files (D.tells disk.new).files) }
-        ensures any_moment { (two : Two File) → (D.tells disk.old).files ≡ Some two
-            → PassedMoments two (D.tells disk.old) (D.tells disk.new) self.old.file
-            (BeforeOrWith (file_of two self.old.file).now self.old.end framed.now) }
-        ensures calls { MakesCalls 4 result (D.tells disk.old) (D.tells disk.new) }
-        ensures run { DiskRun (D.tells disk.old) (D.tells disk.new) }
-        ensures numbers { IsStore self.new }
-        ensures fault { HasCause (D.tells disk.old).disk_faults (D.tells disk.new).disk_faults
-            result }
-    {
-        match self.journal.append(disk, framed) {
-            Ok(()) => Ok(()),
-            Err(_) => {
-                self.closed = true;
-                Err(StoreFault::DiskFault)
-            }
-        }
     }
 }
 

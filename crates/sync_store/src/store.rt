@@ -17,7 +17,7 @@ ghost use Rattle.sync_rules.specs.declared.entries.Entry.TheVariants as entry;
 ghost use Rattle.sync_store.specs.Store.{written_in};
 
 use crate::formats::{format_meant, settling_room};
-use frame_journal::Journal;
+use frame_journal::{Group, Journal};
 use journal_state::State;
 use message_graph::Graph;
 use retry_table::Retry;
@@ -27,13 +27,14 @@ use sync_ids::{GroupDef, GroupId, Message, MessageId};
 use sync_rules::{Fate, Origin, Out, Session};
 
 /// A legal journal on a disk. Contracts see the facts of the journal and the judgements of its
-/// messages, the number of its file and the place of its closed gate plus one, the length that
-/// commits may fill, and whether a call on the disk failed.
+/// messages, the number of its file and the place of its closed gate plus one, the frames that wait
+/// to be added to the file, the length that commits may fill, and whether a call on the disk failed.
 #[derive(Drop)]
 pub struct Store {
     pub(crate) alloc: Global,
     pub(crate) state: State,
     pub(crate) journal: Journal,
+    pub(crate) waiting: Group,
     pub(crate) limit: u64,
     pub(crate) closed: bool,
 }
@@ -106,13 +107,13 @@ impl Store {
         self.journal.generation()
     }
 
-    /// The place of the journal's closed gate plus one, in bytes. It bounds the counts of the
-    /// journal, and is itself at most the greatest length.
+    /// The place of the journal's closed gate plus one, in bytes, with the frames that wait. It
+    /// bounds the counts of the journal, and is itself at most the greatest length.
     pub fn end(&self) -> u64
         ensures value { result ≡ self.now.end }
         ensures numbers { IsStore self.now }
     {
-        self.journal.end()
+        self.journal.end() + (self.waiting.as_slice().len() - 1) as u64
     }
 
     /// The room in bytes that settling may yet need: 38 in format 1 and 10 in format 2 for each step

@@ -1,47 +1,41 @@
-use Rattle.std.proofs.Common.{◌≡◌, ◌+◌, List, ℕ, length, refl, sym, ap, ◌∙◌, subst, false, arith}
-use Rattle.std.proofs.Common.{Ok}
-use Rattle.frame_journal.specs.Journal.{JournalValue}
+use Rattle.std.proofs.Common.{◌≡◌, ◌+◌, ◌≤◌, List, ℕ, length, refl, sym, ap, ◌∙◌, subst, false, arith}
+use Rattle.frame_journal.specs.Append.{payload_of}
+use Rattle.frame_journal.specs.Group.{IsJoined, group_len}
 use Rattle.journal_state.specs.Whole.{KnowsJudgements, StateValue}
 use Rattle.sync_rules.specs.declared.entries.Entry.{Entry}
 use Rattle.sync_rules.specs.Clients.{Meaning}
 use Rattle.sync_rules.specs.Facts.{after_all}
 use Rattle.sync_rules.specs.Legal.{Allowed}
 use Rattle.entry_codec.specs.Payloads.{payload_len}
-use Rattle.sync_store.specs.declared.fault.StoreFault.TheVariants as fault
 use Rattle.sync_store.specs.Store.{StoreValue, written_in}
 use Rattle.sync_store.specs.Inside.{value_of}
-use Rattle.sync_store.specs.Fitting.{FitsFiles, FitsSome}
 use Rattle.sync_store.specs.Commits.{GainsBatch, MayAdd}
-use Rattle.sync_store.proofs.FitSteps.{adds_err, adds_ok, framed_len, rests}
+use Rattle.sync_store.specs.Groups.{HasGathered, HasGroupRoom}
+use Rattle.sync_store.proofs.FitSteps.{framed_len}
+use Rattle.sync_store.proofs.GroupSteps.{frame_finds_room, gathered_more, group_some, joins_group}
 use Rattle.sync_store.proofs.Growth.{grown_store}
 use Rattle.sync_store.proofs.Limits.{counts_few, few_held}
-use Rattle.sync_store.proofs.SettleSteps.{adds_ready_fits}
 use Rattle.sync_store.proofs.store.Store.add.Goals as goal
 
--- what the store becomes once the frame is added and the batch taken
-gained : (clients : Meaning) (s : StoreValue) (state : StateValue) (journal : JournalValue)
+-- what the store becomes once the frame waits and the batch is taken
+gained : (clients : Meaning) (s : StoreValue) (end : ℕ) (state : StateValue) (waiting : List ℕ)
     (batch : List Entry) (framed : List ℕ) → MayAdd clients s batch framed → s.closed ≡ false
-    → state.facts ≡ after_all s.state.facts batch → journal.file ≡ s.file
-    → journal.end ≡ s.end + length framed → journal.format ≡ s.format
-    → journal.generation ≡ s.generation
-    → GainsBatch s (record {
+    → state.facts ≡ after_all s.state.facts batch → s.end ≡ end + group_len s.waiting
+    → 1 ≤ length s.waiting → length waiting ≡ length s.waiting + length framed
+    → GainsBatch s (record s {
       state = state;
-      file = journal.file;
-      format = journal.format;
-      generation = journal.generation;
-      end = journal.end;
-      limit = s.limit;
-      closed = s.closed;
+      end = end + group_len waiting;
+      waiting = waiting;
     }) batch
-gained clients s state journal batch framed may still facts file end format generation =
-    let long : length framed ≡ 5 + payload_len (written_in s) batch =
+gained clients s end state waiting batch framed may still facts is some long =
+    let framed_is : length framed ≡ 5 + payload_len (written_in s) batch =
     framed_len s batch framed may.is_framed may.payload_is in
     record {
       facts = facts;
-      file = file;
-      format = format;
-      generation = generation;
-      end = omega (arith, end, long);
+      file = refl;
+      format = refl;
+      generation = refl;
+      end = omega (arith, is, some, long, framed_is);
       limit = refl;
       closed = still;
     }
@@ -73,112 +67,63 @@ pub invariant_of-self : goal.invariant_of-self
 invariant_of-self g c =
     let clients = g.C.Clients.meaning c.args.clients.now in
     let s = value_of c.self.inside in
-    let may = subst (λ (v : StoreValue). MayAdd clients v c.args.batch c.args.framed.now)
+    let framed = c.args.framed.now in
+    let may = subst (λ (v : StoreValue). MayAdd clients v c.args.batch framed)
     (sym c.self.view_is) c.requires.may in
     let still : s.closed ≡ false = ap (λ (v : StoreValue). v.closed) c.self.view_is
-    ∙ c.requires.ready.still_open in
-    grown_store c.cite_laws.ensures clients s _ c.args.batch c.args.framed.now c.self.invariant may
-    (gained clients s c.take_known.new.self c.append.new.self c.args.batch c.args.framed.now may
-    still c.take_known.ensures.facts (ap (λ (j : JournalValue). j.file) c.in-Ok.ensures.ok)
-    (ap (λ (j : JournalValue). j.end) c.in-Ok.ensures.ok)
-    (ap (λ (j : JournalValue). j.format) c.in-Ok.ensures.ok)
-    (ap (λ (j : JournalValue). j.generation) c.in-Ok.ensures.ok))
+    ∙ c.requires.still_open in
+    let some = group_some s.waiting c.self.invariant.waits in
+    grown_store c.cite_laws.ensures clients s _ c.args.batch framed c.self.invariant may
+    (gained clients s c.self.inside.journal.end c.take_known.new.self c.add.new.self c.args.batch
+    framed may still c.take_known.ensures.facts refl some c.add.ensures.long)
+    (joins_group framed s.waiting c.add.new.self c.add.ensures.added c.self.invariant.waits)
 
-pub returns-in-Ok-clause-extends : goal.returns-in-Ok-clause-extends
-returns-in-Ok-clause-extends g c two told j fits =
+pub returns-clause-gains : goal.returns-clause-gains
+returns-clause-gains g c =
     let clients = g.C.Clients.meaning c.args.clients.now in
     let s = value_of c.self.inside in
-    let may = subst (λ (v : StoreValue). MayAdd clients v c.args.batch c.args.framed.now)
-    (sym c.self.view_is) c.requires.may in
-    let fits' = subst (λ (v : StoreValue). FitsFiles clients v j two) (sym c.self.view_is) fits in
-    let still : s.closed ≡ false = ap (λ (v : StoreValue). v.closed) c.self.view_is
-    ∙ c.requires.ready.still_open in
-    adds_ok c.cite_laws.ensures.stand clients s _ j two c.args.batch c.args.framed.now tt
-    (g.D.Disk.tells c.args.disk.now) (g.D.Disk.tells c.append.new.disk) fits' may told
-    (c.in-Ok.ensures.any_moment two told) c.in-Ok.ensures.appended
-    (gained clients s c.take_known.new.self c.append.new.self c.args.batch c.args.framed.now may
-    still c.take_known.ensures.facts (ap (λ (j : JournalValue). j.file) c.in-Ok.ensures.ok)
-    (ap (λ (j : JournalValue). j.end) c.in-Ok.ensures.ok)
-    (ap (λ (j : JournalValue). j.format) c.in-Ok.ensures.ok)
-    (ap (λ (j : JournalValue). j.generation) c.in-Ok.ensures.ok))
-
-pub returns-in-Ok-clause-ready : goal.returns-in-Ok-clause-ready
-returns-in-Ok-clause-ready g c still =
-    let clients = g.C.Clients.meaning c.args.clients.now in
-    let s = value_of c.self.inside in
-    let o = g.D.Disk.tells c.args.disk.now in
-    let o' = g.D.Disk.tells c.append.new.disk in
-    let may = subst (λ (v : StoreValue). MayAdd clients v c.args.batch c.args.framed.now)
-    (sym c.self.view_is) c.requires.may in
-    let gains =
-    gained clients s c.take_known.new.self c.append.new.self c.args.batch c.args.framed.now may
-    still c.take_known.ensures.facts (ap (λ (j : JournalValue). j.file) c.in-Ok.ensures.ok)
-    (ap (λ (j : JournalValue). j.end) c.in-Ok.ensures.ok)
-    (ap (λ (j : JournalValue). j.format) c.in-Ok.ensures.ok)
-    (ap (λ (j : JournalValue). j.generation) c.in-Ok.ensures.ok) in
-    record {
-      still_open = still;
-      knows =
-          c.take_known.ensures.knows clients
-          (subst (λ (v : StoreValue). KnowsJudgements clients v.state) (sym c.self.view_is)
-          c.requires.ready.knows);
-      fits =
-          adds_ready_fits clients s _ c.args.batch (Ok tt) o o' c.in-Ok.ensures.run
-          (λ two told j fits. adds_ok c.cite_laws.ensures.stand clients s _ j two c.args.batch
-          c.args.framed.now tt o o' fits may told (c.in-Ok.ensures.any_moment two told)
-          c.in-Ok.ensures.appended gains)
-          (subst (λ (v : StoreValue). FitsSome clients v o.files) (sym c.self.view_is)
-          c.requires.ready.fits) still;
-    }
-
-pub returns-in-Err-clause-extends : goal.returns-in-Err-clause-extends
-returns-in-Err-clause-extends g c two told j fits =
-    let clients = g.C.Clients.meaning c.args.clients.now in
-    let s = value_of c.self.inside in
-    let may = subst (λ (v : StoreValue). MayAdd clients v c.args.batch c.args.framed.now)
-    (sym c.self.view_is) c.requires.may in
-    let fits' = subst (λ (v : StoreValue). FitsFiles clients v j two) (sym c.self.view_is) fits in
-    adds_err c.cite_laws.ensures.stand clients s _ j two c.args.batch c.args.framed.now
-    fault.DiskFault (g.D.Disk.tells c.args.disk.now) (g.D.Disk.tells c.append.new.disk) fits'
-    may
-    (c.in-Err.ensures.any_moment two told) refl
-
-pub returns-in-Ok-clause-calls : goal.returns-in-Ok-clause-calls
-returns-in-Ok-clause-calls g c =
-    record { just = c.in-Ok.ensures.calls.just; most = c.in-Ok.ensures.calls.most }
-
-pub returns-in-Err-clause-calls : goal.returns-in-Err-clause-calls
-returns-in-Err-clause-calls g c = record { just = tt; most = c.in-Err.ensures.calls.most }
-
-pub append-requires-clause-fits : goal.append-requires-clause-fits
-append-requires-clause-fits g c two told =
-    let clients = g.C.Clients.meaning c.args.clients.now in
-    let files = (g.D.Disk.tells c.args.disk.now).files in
-    let fits = subst (λ (v : StoreValue). FitsSome clients v files) (sym c.self.view_is)
-    c.requires.ready.fits in
-    rests clients (value_of c.self.inside) files fits two told
-
-pub returns-in-Ok-clause-ok : goal.returns-in-Ok-clause-ok
-returns-in-Ok-clause-ok g c =
-    let s = value_of c.self.inside in
-    let may =
-    subst (λ (v : StoreValue).
-    MayAdd (g.C.Clients.meaning c.args.clients.now) v c.args.batch c.args.framed.now)
+    let framed = c.args.framed.now in
+    let may = subst (λ (v : StoreValue). MayAdd clients v c.args.batch framed)
     (sym c.self.view_is) c.requires.may in
     let still : s.closed ≡ false = ap (λ (v : StoreValue). v.closed) c.self.view_is
-    ∙ c.requires.ready.still_open in
-    subst (λ (v : StoreValue).
-    GainsBatch v (value_of (record {
-      alloc = c.self.inside.alloc;
+    ∙ c.requires.still_open in
+    let some = group_some s.waiting c.self.invariant.waits in
+    subst (λ (v : StoreValue). GainsBatch v (record s {
       state = c.take_known.new.self;
-      journal = c.append.new.self;
-      limit = c.self.inside.limit;
-      closed = c.self.inside.closed;
-    })) c.args.batch)
-    c.self.view_is
-    (gained (g.C.Clients.meaning c.args.clients.now) s c.take_known.new.self c.append.new.self
-    c.args.batch c.args.framed.now may still c.take_known.ensures.facts
-    (ap (λ (j : JournalValue). j.file) c.in-Ok.ensures.ok)
-    (ap (λ (j : JournalValue). j.end) c.in-Ok.ensures.ok)
-    (ap (λ (j : JournalValue). j.format) c.in-Ok.ensures.ok)
-    (ap (λ (j : JournalValue). j.generation) c.in-Ok.ensures.ok))
+      end = c.self.inside.journal.end + group_len c.add.new.self;
+      waiting = c.add.new.self;
+    }) c.args.batch) c.self.view_is
+    (gained clients s c.self.inside.journal.end c.take_known.new.self c.add.new.self c.args.batch
+    framed may still c.take_known.ensures.facts refl some c.add.ensures.long)
+
+pub returns-clause-gathers : goal.returns-clause-gathers
+returns-clause-gathers g c before more gathered =
+    let clients = g.C.Clients.meaning c.args.clients.now in
+    let s = value_of c.self.inside in
+    let framed = c.args.framed.now in
+    let may = subst (λ (v : StoreValue). MayAdd clients v c.args.batch framed)
+    (sym c.self.view_is) c.requires.may in
+    let still : s.closed ≡ false = ap (λ (v : StoreValue). v.closed) c.self.view_is
+    ∙ c.requires.still_open in
+    let some = group_some s.waiting c.self.invariant.waits in
+    let g' = subst (λ (v : StoreValue). HasGathered clients before v more) (sym c.self.view_is)
+    gathered in
+    let room = subst HasGroupRoom (sym c.self.view_is) c.requires.waits in
+    gathered_more clients before s _ more c.args.batch framed g' may
+    (gained clients s c.self.inside.journal.end c.take_known.new.self c.add.new.self c.args.batch
+    framed may still c.take_known.ensures.facts refl some c.add.ensures.long)
+    c.add.ensures.added c.add.ensures.long room
+
+pub returns-clause-knows : goal.returns-clause-knows
+returns-clause-knows g c knows =
+    let clients = g.C.Clients.meaning c.args.clients.now in
+    c.take_known.ensures.knows clients
+    (subst (λ (v : StoreValue). KnowsJudgements clients v.state) (sym c.self.view_is) knows)
+
+pub add-requires-clause-room : goal.add-requires-clause-room
+add-requires-clause-room g c =
+    let clients = g.C.Clients.meaning c.args.clients.now in
+    let s = value_of c.self.inside in
+    let framed = c.args.framed.now in
+    let room = subst HasGroupRoom (sym c.self.view_is) c.requires.waits in
+    frame_finds_room s.waiting framed c.requires.may.is_framed room

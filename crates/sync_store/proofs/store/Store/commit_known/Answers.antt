@@ -5,6 +5,7 @@ use Rattle.sync_store.specs.Moments.{WithAtMost, journal_with}
 use Rattle.sync_store.specs.Store.{StoreValue, IsStore}
 use Rattle.sync_store.proofs.FitSteps.{leads_none, fits_same}
 use Rattle.sync_store.proofs.Growth.{fits_by, may_add, no_calls, ready_same, with_none}
+use Rattle.sync_store.proofs.MigrateSteps.{same_self}
 use Rattle.sync_store.proofs.store.Store.commit_known.Goals as goal
 
 pub returns-then-is_full-clause-extends : goal.returns-then-is_full-clause-extends
@@ -14,7 +15,7 @@ returns-then-is_full-clause-extends g c still two told j fits =
     leads_none c.cite_laws.ensures.stand clients (WithAtMost j c.args.batch) (λ whole. whole ≡ j) s
     s j two (g.D.Disk.tells c.args.disk.now) fits
     (subst IsStore c.self.view_is c.self.invariant).roomy told
-    (record { facts = refl; file = refl; format = refl; generation = refl; end = refl }) (inl refl)
+    (same_self s) (inl refl)
     refl
 
 pub returns-in_err-framed-clause-extends : goal.returns-in_err-framed-clause-extends
@@ -25,7 +26,7 @@ returns-in_err-framed-clause-extends g c still two told j fits =
     whole ≡ journal_with j c.args.batch c.from_residual.result) s s j two
     (g.D.Disk.tells c.args.disk.now) fits
     (subst IsStore c.self.view_is c.self.invariant).roomy told
-    (record { facts = refl; file = refl; format = refl; generation = refl; end = refl }) (inl refl)
+    (same_self s) (inl refl)
     (with_none j c.args.batch c.from_residual.result c.from_residual.ensures.0)
 
 pub returns-in_err-reserve-clause-extends : goal.returns-in_err-reserve-clause-extends
@@ -42,11 +43,12 @@ returns-in_err-reserve-clause-extends g c still two told j fits =
       format = ap (λ (v : StoreValue). v.format) c.self.view_is;
       generation = ap (λ (v : StoreValue). v.generation) c.self.view_is;
       end = ap (λ (v : StoreValue). v.end) c.self.view_is;
+      waiting = ap (λ (v : StoreValue). v.waiting) c.self.view_is;
     }) (inl refl) (with_none j c.args.batch c.from_residual-in_err-reserve.result
     c.from_residual-in_err-reserve.ensures.0)
 
-pub add-requires-clause-may : goal.add-requires-clause-may
-add-requires-clause-may g c =
+pub append-requires-clause-may : goal.append-requires-clause-may
+append-requires-clause-may g c =
     let clients = g.C.Clients.meaning c.args.clients.now in
     let s = c.args.self.now in
     let still : s.closed ≡ false = ap (λ (v : StoreValue). v.closed) (sym c.self.view_is)
@@ -74,10 +76,11 @@ returns-in_err-reserve-clause-ready g c still =
       format = ap (λ (v : StoreValue). v.format) c.self.view_is;
       generation = ap (λ (v : StoreValue). v.generation) c.self.view_is;
       end = ap (λ (v : StoreValue). v.end) c.self.view_is;
+      waiting = ap (λ (v : StoreValue). v.waiting) c.self.view_is;
     }) (c.reserve.ensures.answers ∙ ap (λ (v : StoreValue). v.state.answers) c.self.view_is) still
 
-pub add-requires-clause-ready : goal.add-requires-clause-ready
-add-requires-clause-ready g c =
+pub append-requires-clause-ready : goal.append-requires-clause-ready
+append-requires-clause-ready g c =
     let s = c.args.self.now in
     let before : s.closed ≡ false = ap (λ (v : StoreValue). v.closed) (sym c.self.view_is)
     ∙ c.if-self.false in
@@ -89,6 +92,7 @@ add-requires-clause-ready g c =
       format = ap (λ (v : StoreValue). v.format) c.self.view_is;
       generation = ap (λ (v : StoreValue). v.generation) c.self.view_is;
       end = ap (λ (v : StoreValue). v.end) c.self.view_is;
+      waiting = ap (λ (v : StoreValue). v.waiting) c.self.view_is;
     }) (c.reserve.ensures.answers ∙ ap (λ (v : StoreValue). v.state.answers) c.self.view_is)
     c.if-self.false
 
@@ -96,13 +100,14 @@ pub returns-clause-extends : goal.returns-clause-extends
 returns-clause-extends g c still two told j fits =
     let clients = g.C.Clients.meaning c.args.clients.now in
     let s = c.args.self.now in
-    c.add.ensures.extends two told j
+    c.append.ensures.extends two told j
     (fits_same clients s _ j two fits (record {
       facts = c.reserve.ensures.facts ∙ ap (λ (v : StoreValue). v.state.facts) c.self.view_is;
       file = ap (λ (v : StoreValue). v.file) c.self.view_is;
       format = ap (λ (v : StoreValue). v.format) c.self.view_is;
       generation = ap (λ (v : StoreValue). v.generation) c.self.view_is;
       end = ap (λ (v : StoreValue). v.end) c.self.view_is;
+      waiting = ap (λ (v : StoreValue). v.waiting) c.self.view_is;
     }))
 
 pub returns-then-self-clause-calls : goal.returns-then-self-clause-calls

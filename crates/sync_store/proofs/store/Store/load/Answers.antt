@@ -1,17 +1,19 @@
-use Rattle.std.proofs.Common.{◌≡◌, sym, ap, ◌∙◌, subst, Result, length, lit≤}
+use Rattle.std.proofs.Common.{◌≡◌, ◌+◌, Ok, sym, ap, ◌∙◌, subst, Result, length, lit≤}
 use Rattle.outside.proofs.CallCounts.{most_then}
 use Rattle.file_standing.specs.Standing.{stands}
 use Rattle.sync_store.specs.declared.fault.LoadFault.TheVariants as load
 use Rattle.sync_rules.specs.Facts.{nothing}
 use Rattle.outside.proofs.CallSteps.{looks_then, run_then}
 use Rattle.outside.specs.Files.{read_files}
+use Rattle.frame_journal.specs.Group.{group_len}
 use Rattle.sync_store.specs.Store.{StoreValue}
 use Rattle.sync_store.specs.Faults.{load_of_start}
 use Rattle.sync_store.specs.Loading.{IsJournalLoaded, LeavesSettled}
+use Rattle.sync_store.specs.Ready.{IsReady}
 use Rattle.sync_store.specs.declared.fault.LoadFault.{LoadFault}
 use Rattle.sync_store.proofs.Errors.{err_is}
 use Rattle.sync_store.proofs.LoadEnds.{answers, answers_fault, barrier_told, images_then}
-use Rattle.sync_store.proofs.LoadEnds.{knows_none, reads_leaves, ready_loaded, starts_fault}
+use Rattle.sync_store.proofs.LoadEnds.{knows_none, loads_at, reads_leaves, ready_loaded, starts_fault}
 use Rattle.sync_store.proofs.LoadEnds.{starts_leaves, starts_so_far, starts_some, store_of}
 use Rattle.sync_store.proofs.LoadCounts.{loads_cut, loads_failed, loads_whole}
 use Rattle.sync_store.proofs.store.Store.load.Goals as goal
@@ -49,6 +51,28 @@ returns-in_err-state-clause-any_moment g c =
     images_then (g.D.Disk.tells c.args.disk.now) (g.D.Disk.tells c.barrier.new.disk)
     (g.D.Disk.tells c.start.new.disk) c.barrier.ensures.any_moment
     c.in_ok-barrier.ensures.settled c.barrier.ensures.run c.start.ensures.looks
+
+pub returns-in_err-waiting-clause-any_moment : goal.returns-in_err-waiting-clause-any_moment
+returns-in_err-waiting-clause-any_moment g c =
+    images_then (g.D.Disk.tells c.args.disk.now) (g.D.Disk.tells c.barrier.new.disk)
+    (g.D.Disk.tells c.start.new.disk) c.barrier.ensures.any_moment
+    c.in_ok-barrier.ensures.settled c.barrier.ensures.run c.start.ensures.looks
+
+pub returns-in_err-waiting-clause-run : goal.returns-in_err-waiting-clause-run
+returns-in_err-waiting-clause-run g c =
+    run_then (g.D.Disk.tells c.args.disk.now) (g.D.Disk.tells c.barrier.new.disk)
+    (g.D.Disk.tells c.start.new.disk) c.barrier.ensures.run c.start.ensures.looks.run
+
+pub returns-in_err-waiting-clause-calls : goal.returns-in_err-waiting-clause-calls
+returns-in_err-waiting-clause-calls g c two told j stood =
+    let o1 = g.D.Disk.tells c.barrier.new.disk in
+    loads_failed load.Memory c.from_residual-in_err-waiting.result (length j) 5
+    (g.D.Disk.tells c.args.disk.now) (g.D.Disk.tells c.start.new.disk)
+    (err_is c.from_residual-in_err-waiting.result load.Memory
+    c.from_residual-in_err-waiting.ensures.1)
+    (lit≤ tt)
+    (most_then 2 3 (g.D.Disk.tells c.args.disk.now) o1 (g.D.Disk.tells c.start.new.disk)
+    c.barrier.ensures.calls.most c.start.ensures.calls.most)
 
 pub read_all-requires-clause-so_far : goal.read_all-requires-clause-so_far
 read_all-requires-clause-so_far g c =
@@ -103,20 +127,28 @@ returns-in_err-read_all-clause-any_moment g c =
 
 pub returns-clause-answer : goal.returns-clause-answer
 returns-clause-answer g c two told =
-    answers (g.C.Clients.meaning c.args.clients.now) (g.D.Disk.tells c.args.disk.now)
+    subst (λ (v : StoreValue). IsJournalLoaded (g.C.Clients.meaning c.args.clients.now)
+    (read_files two) (Ok v))
+    (sym (loads_at c.read_all.new.journal c.read_all.new.state c.args.limit c.in_ok-waiting.waiting
+    c.in_ok-waiting.ensures))
+    (answers (g.C.Clients.meaning c.args.clients.now) (g.D.Disk.tells c.args.disk.now)
     (g.D.Disk.tells c.barrier.new.disk) (g.D.Disk.tells c.read_all.new.disk) two
     c.read_all.new.journal
     (store_of c.read_all.new.journal c.read_all.new.state c.args.limit)
     c.in_ok-barrier.ensures.settled (c.read_all.ensures.looks.same_files
-    ∙ c.start.ensures.looks.same_files) c.in_ok-read_all.ensures.all told
+    ∙ c.start.ensures.looks.same_files) c.in_ok-read_all.ensures.all told)
 
 pub returns-clause-ready : goal.returns-clause-ready
 returns-clause-ready g c =
-    ready_loaded (g.C.Clients.meaning c.args.clients.now) (g.D.Disk.tells c.args.disk.now)
+    subst (λ (v : StoreValue). IsReady (g.C.Clients.meaning c.args.clients.now) v
+    (g.D.Disk.tells c.read_all.new.disk).files)
+    (sym (loads_at c.read_all.new.journal c.read_all.new.state c.args.limit c.in_ok-waiting.waiting
+    c.in_ok-waiting.ensures))
+    (ready_loaded (g.C.Clients.meaning c.args.clients.now) (g.D.Disk.tells c.args.disk.now)
     (g.D.Disk.tells c.barrier.new.disk) (g.D.Disk.tells c.read_all.new.disk)
     c.read_all.new.journal c.read_all.new.state c.args.limit
     c.in_ok-barrier.ensures.settled (c.read_all.ensures.looks.same_files
-    ∙ c.start.ensures.looks.same_files) c.in_ok-read_all.ensures.all
+    ∙ c.start.ensures.looks.same_files) c.in_ok-read_all.ensures.all)
 
 pub returns-clause-any_moment : goal.returns-clause-any_moment
 returns-clause-any_moment g c =
@@ -194,7 +226,10 @@ returns-clause-calls g c two told j stood =
     let o1 = g.D.Disk.tells c.barrier.new.disk in
     let o2 = g.D.Disk.tells c.start.new.disk in
     let mid = barrier_told o0 o1 two c.in_ok-barrier.ensures.settled told in
-    loads_whole (store_of c.read_all.new.journal c.read_all.new.state c.args.limit) tt (length j) o0
+    loads_whole (record (store_of c.read_all.new.journal c.read_all.new.state c.args.limit) {
+      end = c.read_all.new.journal.end + group_len c.in_ok-waiting.waiting;
+      waiting = c.in_ok-waiting.waiting;
+    }) tt (length j) o0
     o1 o2 (g.D.Disk.tells c.read_all.new.disk) c.in_ok-barrier.ensures.calls.just
     c.in_ok-journal.ensures.calls.just
     (c.in_ok-read_all.ensures.calls mid.0 (c.start.ensures.looks.same_files

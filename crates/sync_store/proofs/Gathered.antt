@@ -1,0 +1,378 @@
+-- Batches that are gathered and added in groups, one piece of the work behind the other.
+use Rattle.std.proofs.Common.{◌≡◌, ℕ, ◌+◌, ◌-◌, ◌*◌, ◌≤◌, Bool, true, false, List, [], ◌∷◌, ◌++◌, length}
+use Rattle.std.proofs.Common.{Option, Some, Result, Ok, Err, refl, sym, ap, ◌∙◌, subst, inl, inr, arith}
+use Rattle.std.proofs.Common.{append-nil, append_assoc}
+use Rattle.std.specs.Prelude.{◌==◌, nat_le, IfErr, OnOk}
+use Rattle.std.proofs.lemmas.Bool.Decides.{nat_tests}
+use Rattle.outside.specs.Files.{Two, File}
+use Rattle.outside.specs.Outside.{Outside, DiskRun, MakesAtMost, MakesCalls, MakesJust}
+use Rattle.outside.proofs.CallSteps.{told_back}
+use Rattle.frame_journal.specs.Group.{IsJoined, flush_calls, group_len}
+use Rattle.frame_journal.proofs.GroupSteps.{joined_none}
+use Rattle.frame_journal.specs.declared.group.TheConstants.{MAX_GROUP}
+use Rattle.outside.specs.declared.limits.TheConstants.{MAX_FRAME}
+use Rattle.journal_state.specs.Whole.{KnowsJudgements, StateValue}
+use Rattle.sync_rules.specs.declared.entries.Entry.{Entry}
+use Rattle.sync_rules.specs.Clients.{Meaning}
+use Rattle.entry_codec.specs.declared.naming.Format.{Format}
+use Rattle.entry_codec.specs.Payloads.{payloads}
+use Rattle.sync_store.specs.declared.fault.StoreFault.{StoreFault}
+use Rattle.sync_store.specs.declared.fault.StoreFault.TheVariants as fault
+use Rattle.sync_store.specs.Store.{IsStore, NoneWaits, StoreValue, format_meant, written_in}
+use Rattle.sync_store.specs.Commits.{KeepsStore}
+use Rattle.sync_store.specs.Fitting.{FitsFiles, FitsSome, ImagesStand}
+use Rattle.sync_store.specs.Gathering.{GathersSteps, IsAdded, IsUnderway, KeepsJournal}
+use Rattle.sync_store.specs.Gathering.{MakesRoom}
+use Rattle.sync_store.specs.Groups.{AddsAll, HasGathered, HasGroupRoom, IsGathering, NoneOrAll}
+use Rattle.sync_store.specs.Moments.{IsBetween, groups_for}
+use Rattle.sync_store.specs.Ready.{IsReady}
+use Rattle.sync_store.specs.Runs.{RunsBy}
+use Rattle.sync_store.proofs.FitSteps.{true≢false}
+use Rattle.sync_store.proofs.GroupCounts.{adds_first, calls_of_group, few_groups, one_group, unless}
+use Rattle.sync_store.proofs.GroupSteps.{joined_len}
+use Rattle.sync_store.proofs.Runs.{runs_both, runs_nothing}
+use Rattle.sync_store.proofs.SettleSteps.{leads_map}
+
+-- ---- none waits
+
+-- a store of which none waits has gathered none since itself
+pub gathered_none : (clients : Meaning) (s : StoreValue) → s.closed ≡ false → NoneWaits s
+    → HasGathered clients s s []
+gathered_none clients s still none = record {
+  opened = still;
+  goes_on = tt;
+  facts = refl;
+  file = refl;
+  format = refl;
+  generation = refl;
+  end = omega (arith, ap length none);
+  limit = refl;
+  joined = subst (λ w. IsJoined [] w) (sym none) joined_none;
+  together = λ rest. ap (λ w. groups_for (written_in s) (group_len w) rest) (sym none);
+  kinds = tt;
+  within = tt;
+}
+
+pub gathering_none : (clients : Meaning) (s : StoreValue) (files : Option (Two File)) → IsStore s
+    → IsReady clients s files → IsGathering clients s files
+gathering_none clients s files store ready = record {
+  still_open = ready.still_open;
+  store = store;
+  knows = ready.knows;
+  before = s;
+  kept = store;
+  more = [];
+  gathered = gathered_none clients s ready.still_open ready.none_waits;
+  fits = ready.fits;
+}
+
+-- all is as it is
+pub stays_itself : (s : StoreValue) → KeepsStore s s
+stays_itself s = record {
+  facts = refl;
+  answers = refl;
+  file = refl;
+  format = refl;
+  generation = refl;
+  end = refl;
+  waiting = refl;
+  limit = refl;
+  closed = refl;
+}
+
+-- ---- a group is added
+
+none_or_all : (j more whole : List (List Entry)) → NoneOrAll j more whole → IsBetween j more whole
+none_or_all j more whole (inl none) =
+    record { front = []; rest = more; parts = refl; is = none ∙ sym (append-nil j) }
+none_or_all j more whole (inr all) =
+    record { front = more; rest = []; parts = sym (append-nil more); is = all }
+
+pub group_added : (clients : Meaning) (before s new : StoreValue) (more : List (List Entry))
+    (o o' : Outside) → HasGathered clients before s more → KeepsJournal s new → DiskRun o o'
+    → (new.closed ≡ false → MakesJust (flush_calls s.waiting) o o')
+    → MakesAtMost (flush_calls s.waiting) o o'
+    → AddsAll clients before new o o' more → IsAdded clients before new o o' more
+group_added clients before s new more o o' g same run just most adds =
+    let some : 1 ≤ length s.waiting =
+    omega (arith, joined_len (payloads (written_in before) before.state.facts more) s.waiting
+    g.joined) in
+    let groups = unless (length s.waiting == 1) in
+    let calls : flush_calls s.waiting ≡ 4 * groups = calls_of_group (length s.waiting == 1) in
+    let counted : groups ≡ groups_for (written_in before) 0 more =
+    sym (one_group (length s.waiting) some) ∙ sym (g.together [])
+    ∙ ap (groups_for (written_in before) 0) (append-nil more) in
+    record {
+      runs = record {
+        goes_on = g.goes_on;
+        facts = λ still. ap (λ (v : StateValue). v.facts) same.state ∙ g.facts;
+        file = same.file ∙ g.file;
+        format = same.format ∙ g.format;
+        generation = same.generation ∙ g.generation;
+        limit = same.limit ∙ g.limit;
+        run = run;
+        leads = λ two told j fits.
+            leads_map clients (NoneOrAll j more) (IsBetween j more) (λ whole. whole ≡ j ++ more)
+            (λ whole. whole ≡ j ++ more) new o o' (none_or_all j more) (λ whole is. is)
+            (adds two told j fits);
+        groups = groups;
+        few = omega (arith, counted, few_groups (written_in before) more);
+        calls = record {
+          just = λ still. subst (λ n. MakesJust n o o') calls (just still);
+          most = subst (λ n. MakesAtMost n o o') calls most;
+        };
+      };
+      counted = counted;
+    }
+
+-- ---- the work so far
+
+module _ (clients : Meaning) where
+  pub underway_begins : ImagesStand → (before s : StoreValue) (o : Outside)
+      (waits : List (List Entry)) → IsStore before → HasGathered clients before s waits
+      → IsUnderway clients before s o o waits
+  underway_begins images before s o waits kept g =
+      let none = runs_nothing images clients before before o kept (stays_itself before) in
+      record {
+        mid = before;
+        kept = kept;
+        done = [];
+        rest = waits;
+        parts = refl;
+        runs = none.0;
+        gathered = g;
+        counted = λ more. omega (arith, g.together more, none.1);
+      }
+
+  -- a group was added to make room
+  pub underway_flushed : (before s new : StoreValue) (o o' : Outside) (waits : List (List Entry))
+      → IsStore new → HasGathered clients before s waits → IsAdded clients before new o o' waits
+      → new.closed ≡ false → NoneWaits new
+      → nat_le (group_len s.waiting + (MAX_FRAME + 5)) MAX_GROUP ≡ false
+      → IsUnderway clients before new o o' waits
+  underway_flushed before s new o o' waits kept g added still none full = record {
+    mid = new;
+    kept = kept;
+    done = waits;
+    rest = [];
+    parts = append-nil waits;
+    runs = added.runs;
+    gathered = gathered_none clients new still none;
+    counted = λ more.
+        let kind = written_in before in
+        let one : added.runs.groups ≡ 1 =
+        added.counted ∙ ap (groups_for kind 0) (sym (append-nil waits)) ∙ g.together []
+        ∙ adds_first kind (group_len s.waiting) [] full in
+        let empty : groups_for kind (group_len new.waiting) more ≡ groups_for kind 0 more =
+        ap (λ w. groups_for kind (group_len w) more) none in
+        omega (
+          arith,
+          g.together more,
+          adds_first kind (group_len s.waiting) more full,
+          one,
+          empty,
+        );
+  }
+
+  -- one piece behind the other
+  pub underway_then : (before s1 s2 : StoreValue) (o0 o1 o2 : Outside) (all : List (List Entry))
+      (u : IsUnderway clients before s1 o0 o1 all) → IsUnderway clients u.mid s2 o1 o2 u.rest
+      → IsUnderway clients before s2 o0 o2 all
+  underway_then before s1 s2 o0 o1 o2 all u v =
+      let same : written_in u.mid ≡ written_in before = ap format_meant u.runs.format in
+      let both = runs_both clients before u.mid v.mid o0 o1 o2 u.done v.done u.gathered.opened u.runs
+      v.runs in
+      record {
+        mid = v.mid;
+        kept = v.kept;
+        done = u.done ++ v.done;
+        rest = v.rest;
+        parts = append_assoc u.done v.done v.rest ∙ ap (λ l. u.done ++ l) v.parts ∙ u.parts;
+        runs = both.0;
+        gathered = v.gathered;
+        counted = λ more.
+            let kind = written_in before in
+            let later =
+            subst (λ (k : Format). groups_for k 0 (u.rest ++ more)
+            ≡ v.runs.groups + groups_for k (group_len s2.waiting) more) same (v.counted more) in
+            let here =
+            subst (λ (k : Format). groups_for k 0 (u.rest ++ more)
+            ≡ groups_for k (group_len s1.waiting) more) same (u.gathered.together more) in
+            omega (arith, u.counted more, later, here, both.1);
+      }
+
+  -- and then all were added
+  pub underway_ends : (before s1 s2 : StoreValue) (o0 o1 o2 : Outside) (all : List (List Entry))
+      (u : IsUnderway clients before s1 o0 o1 all) → IsAdded clients u.mid s2 o1 o2 u.rest
+      → IsAdded clients before s2 o0 o2 all
+  underway_ends before s1 s2 o0 o1 o2 all u a =
+      let same : written_in u.mid ≡ written_in before = ap format_meant u.runs.format in
+      let kind = written_in before in
+      let later : a.runs.groups ≡ groups_for kind 0 u.rest =
+      a.counted ∙ ap (λ (k : Format). groups_for k 0 u.rest) same in
+      let here =
+      subst (λ (k : Format). groups_for k 0 (u.rest ++ [])
+      ≡ groups_for k (group_len s1.waiting) []) same (u.gathered.together []) in
+      let both = runs_both clients before u.mid s2 o0 o1 o2 u.done u.rest u.gathered.opened u.runs
+      a.runs in
+      let count : both.0.groups ≡ groups_for kind 0 (u.done ++ u.rest) =
+      omega (
+        arith,
+        both.1,
+        later,
+        here,
+        ap (groups_for kind 0) (append-nil u.rest),
+        u.counted [],
+        ap (groups_for kind 0) (append-nil all ∙ sym u.parts),
+      ) in
+      subst (IsAdded clients before s2 o0 o2) u.parts (record { runs = both.0; counted = count })
+
+  -- a settling batch more waits
+  pub underway_more : (before s1 s2 : StoreValue) (o0 o1 : Outside) (all : List (List Entry))
+      (result : Result (Unit {0}) StoreFault) (u : IsUnderway clients before s1 o0 o1 all)
+      (steps : GathersSteps clients s1 s2 result)
+      → IsUnderway clients before s2 o0 o1 (all ++ steps.more)
+  underway_more before s1 s2 o0 o1 all result u steps =
+      let same : written_in s1 ≡ written_in before =
+      ap format_meant (u.gathered.format ∙ u.runs.format) in
+      record {
+        mid = u.mid;
+        kept = u.kept;
+        done = u.done;
+        rest = u.rest ++ steps.more;
+        parts = sym (append_assoc u.done u.rest steps.more) ∙ ap (λ l. l ++ steps.more) u.parts;
+        runs = u.runs;
+        gathered = steps.gathers u.mid u.rest u.gathered;
+        counted = λ more.
+            let kind = written_in before in
+            let joins =
+            subst (λ (k : Format). groups_for k (group_len s1.waiting) (steps.more ++ more)
+            ≡ groups_for k (group_len s2.waiting) more) same (steps.joins more) in
+            omega (
+              arith,
+              ap (groups_for kind 0) (append_assoc all steps.more more),
+              u.counted (steps.more ++ more),
+              joins,
+            );
+      }
+
+  -- at the end of a run the disk fits the store
+  pub runs_fits : (s new : StoreValue) (o o' : Outside) (more : List (List Entry))
+      → RunsBy clients s new o o' more → FitsSome clients s o.files → new.closed ≡ false
+      → FitsSome clients new o'.files
+  runs_fits s new o o' more runs fits still two' told' =
+      let there = told_back o o' two' runs.run.same_told told' in
+      let begun = fits there.0 there.1 in
+      let end = (runs.leads there.0 there.1 begun.0 begun.1).ends still two' told' in
+      (end.0, end.2)
+
+  pub gathering_still : (before s : StoreValue) (o o' : Outside) (all : List (List Entry))
+      → IsUnderway clients before s o o' all → FitsSome clients before o.files → s.closed ≡ false
+      → IsStore s → KnowsJudgements clients s.state → IsGathering clients s o'.files
+  gathering_still before s o o' all u fits still store knows = record {
+    still_open = still;
+    store = store;
+    knows = knows;
+    before = u.mid;
+    kept = u.kept;
+    more = u.rest;
+    gathered = u.gathered;
+    fits = runs_fits before u.mid o o' u.done u.runs fits u.gathered.opened;
+  }
+
+-- ---- what a flush comes to, by its answer
+
+pub keeps_flushed : (s new : StoreValue) (result : Result (Unit {0}) StoreFault)
+    → OnOk result (new ≡ record s { waiting = 0 ∷ [] })
+    → IfErr result (λ e. (e ≡ fault.DiskFault) × (new ≡ record s { closed = true }))
+    → KeepsJournal s new
+keeps_flushed s new (Ok u) ok err = record {
+  state = ap (λ (v : StoreValue). v.state) ok;
+  file = ap (λ (v : StoreValue). v.file) ok;
+  format = ap (λ (v : StoreValue). v.format) ok;
+  generation = ap (λ (v : StoreValue). v.generation) ok;
+  end = ap (λ (v : StoreValue). v.end) ok;
+  limit = ap (λ (v : StoreValue). v.limit) ok;
+}
+keeps_flushed s new (Err e) ok err = record {
+  state = ap (λ (v : StoreValue). v.state) err.1;
+  file = ap (λ (v : StoreValue). v.file) err.1;
+  format = ap (λ (v : StoreValue). v.format) err.1;
+  generation = ap (λ (v : StoreValue). v.generation) err.1;
+  end = ap (λ (v : StoreValue). v.end) err.1;
+  limit = ap (λ (v : StoreValue). v.limit) err.1;
+}
+
+just_by : (new : StoreValue) (n : ℕ) (result : Result (Unit {0}) StoreFault) (s : StoreValue)
+    (o o' : Outside)
+    → IfErr result (λ e. (e ≡ fault.DiskFault) × (new ≡ record s { closed = true }))
+    → MakesCalls n result o o' → new.closed ≡ false → MakesJust n o o'
+just_by new n (Ok u) s o o' err calls still = calls.just
+just_by new n (Err e) s o o' err calls still =
+    true≢false new.closed (ap (λ (v : StoreValue). v.closed) err.1) still
+
+-- whatever it answered, what waited was added as far as the disk had it
+pub flush_added : (clients : Meaning) (before s new : StoreValue) (more : List (List Entry))
+    (result : Result (Unit {0}) StoreFault) (o o' : Outside)
+    → OnOk result (new ≡ record s { waiting = 0 ∷ [] })
+    → IfErr result (λ e. (e ≡ fault.DiskFault) × (new ≡ record s { closed = true }))
+    → DiskRun o o' → MakesCalls (flush_calls s.waiting) result o o'
+    → HasGathered clients before s more → AddsAll clients before new o o' more
+    → IsAdded clients before new o o' more
+flush_added clients before s new more result o o' ok err run calls g adds =
+    group_added clients before s new more o o' g (keeps_flushed s new result ok err) run
+    (just_by new (flush_calls s.waiting) result s o o' err calls) calls.most adds
+
+full_by : (n m : ℕ) → n ≡ m + 1 → nat_le (n + (MAX_FRAME + 5)) (MAX_GROUP + 1) ≡ false
+    → nat_le (m + (MAX_FRAME + 5)) MAX_GROUP ≡ false
+full_by n m is full = grind (arith, nat_tests)
+
+-- room was made
+pub room_made : (clients : Meaning) (before s new : StoreValue) (waits : List (List Entry))
+    (result : Result (Unit {0}) StoreFault) (o o' : Outside) → IsStore new → s.closed ≡ false
+    → OnOk result (new ≡ record s { waiting = 0 ∷ [] })
+    → IfErr result (λ e. (e ≡ fault.DiskFault) × (new ≡ record s { closed = true }))
+    → HasGathered clients before s waits → IsAdded clients before new o o' waits
+    → nat_le (length s.waiting + (MAX_FRAME + 5)) (MAX_GROUP + 1) ≡ false
+    → MakesRoom clients before new waits result o o'
+room_made clients before s new waits (Ok u) o o' store still ok err g added full =
+    let none : new.waiting ≡ 0 ∷ [] = ap (λ (v : StoreValue). v.waiting) ok in
+    let some : length s.waiting ≡ group_len s.waiting + 1 =
+    omega (arith, joined_len (payloads (written_in before) before.state.facts waits) s.waiting
+    g.joined) in
+    underway_flushed clients before s new o o' waits store g added
+    (ap (λ (v : StoreValue). v.closed) ok ∙ still) none (full_by (length s.waiting)
+    (group_len s.waiting) some full)
+room_made clients before s new waits (Err fault.DiskFault) o o' store still ok err g added full =
+    (ap (λ (v : StoreValue). v.closed) err.1, added)
+room_made clients before s new waits (Err fault.Closed) o o' store still ok err g added full =
+    let e : fault.Closed ≡ fault.DiskFault = err.0 in cc
+room_made clients before s new waits (Err fault.Full) o o' store still ok err g added full =
+    let e : fault.Full ≡ fault.DiskFault = err.0 in cc
+room_made clients before s new waits (Err fault.Memory) o o' store still ok err g added full =
+    let e : fault.Memory ≡ fault.DiskFault = err.0 in cc
+
+pub has_room_then : (s new : StoreValue) (result : Result (Unit {0}) StoreFault)
+    → OnOk result (new ≡ record s { waiting = 0 ∷ [] }) → OnOk result (HasGroupRoom new)
+has_room_then s new (Ok u) ok =
+    let none : length new.waiting ≡ 1 = ap (λ (v : StoreValue). length v.waiting) ok in
+    omega (arith, none)
+has_room_then s new (Err e) ok = tt
+
+pub gathering_then : (clients : Meaning) (s new : StoreValue) (files : Option (Two File))
+    (result : Result (Unit {0}) StoreFault) → IsStore new → s.closed ≡ false
+    → OnOk result (new ≡ record s { waiting = 0 ∷ [] })
+    → (new.closed ≡ false → IsReady clients new files)
+    → OnOk result (IsGathering clients new files)
+gathering_then clients s new files (Ok u) store still ok ready =
+    gathering_none clients new files store
+    (ready (ap (λ (v : StoreValue). v.closed) ok ∙ still))
+gathering_then clients s new files (Err e) store still ok ready = tt
+
+pub room_so : (n : ℕ) (b : Bool) → b ≡ nat_le (n + (MAX_FRAME + 5)) (MAX_GROUP + 1) → b ≡ true
+    → n + (MAX_FRAME + 5) ≤ MAX_GROUP + 1
+room_so n b is found = grind (arith, nat_tests)
+
+-- where none waits the longest frame finds room
+pub room_of_none : (s : StoreValue) → NoneWaits s → HasGroupRoom s
+room_of_none s none = omega (arith, ap length none)

@@ -1,0 +1,138 @@
+//! Batches whose frames wait in the store, to be added to the journal together.
+ghost use Rattle.std.specs.Prelude.{◌≡◌, ◌+◌, ◌≤◌, ◌++◌, ◌∷◌, [], false, true, length, nat_le};
+ghost use Rattle.std.specs.Prelude.{List, IfErr, IsErrOf, OnOk};
+ghost use Rattle.frame_journal.specs.Group.{flush_calls};
+ghost use Rattle.frame_journal.specs.declared.group.TheConstants.{MAX_GROUP};
+ghost use Rattle.outside.specs.declared.limits.TheConstants.{MAX_FRAME};
+ghost use Rattle.outside.specs.Faults.{HasCause};
+ghost use Rattle.outside.specs.Outside.{DiskRun, MakesCalls};
+ghost use Rattle.journal_state.specs.Taking.{HasRoom};
+ghost use Rattle.journal_state.specs.Whole.{KnowsJudgements};
+ghost use Rattle.sync_rules.specs.declared.entries.Entry.{Entry};
+ghost use Rattle.sync_rules.specs.Allows.{is_account_kind, is_settling_kind};
+ghost use Rattle.sync_rules.specs.Legal.{Allowed};
+ghost use Rattle.session_core.specs.Known.{IsOfAll};
+ghost use Rattle.sync_store.specs.Commits.{AnswersCommit, GainsBatch, MayAdd};
+ghost use Rattle.sync_store.specs.Groups.{AddsAll, HasGathered, HasGroupRoom, IsGathering};
+ghost use Rattle.sync_store.specs.Ready.{IsReady};
+ghost use Rattle.sync_store.specs.Store.{IsStore, StoreValue};
+
+use crate::StoreFault;
+use crate::laws::cite_laws;
+use crate::store::Store;
+use outside::{Disk, MAX_FRAME};
+use sync_ids::MessageId;
+use sync_rules::{Batch, Clients};
+
+impl Store {
+    // Whether the longest frame finds room behind those that wait.
+    pub(crate) fn has_group_room(&self) -> bool
+        ensures { result ≡ nat_le (length self.now.waiting + (MAX_FRAME + 5)) (MAX_GROUP + 1) }
+    {
+        self.waiting.has_room(MAX_FRAME as usize + 5)
+    }
+
+    // Takes a batch into the store as `commit_known` does, with no call on the disk: its frame waits
+    // until `flush`. After `Closed`, `Full` and `Memory` all is as before.
+    pub(crate) fn gather<C: Clients>(
+        &mut self,
+        clients: &C,
+        batch: Batch,
+        id: Option<MessageId>,
+    ) -> Result<(), StoreFault>
+        requires knows { self.old.closed ≡ false
+            → KnowsJudgements (C.meaning clients.now) self.old.state }
+        requires room { self.old.closed ≡ false → HasGroupRoom self.old }
+        requires allowed { self.old.closed ≡ false
+            → Allowed (C.meaning clients.now) self.old.state.facts batch }
+        requires kind { is_settling_kind batch ≡ false }
+        requires plain { is_account_kind batch ≡ false }
+        requires named { IsOfAll id batch }
+        ensures answer { AnswersCommit self.old self.new batch result }
+        ensures faultless { IsErrOf result StoreFault.DiskFault → ⊥ }
+        ensures gathers { OnOk result ((before : StoreValue) → (more : List (List Entry))
+            → HasGathered (C.meaning clients.now) before self.old more
+            → HasGathered (C.meaning clients.now) before self.new (more ++ batch ∷ [])) }
+        ensures knows { self.new.closed ≡ false
+            → KnowsJudgements (C.meaning clients.now) self.new.state }
+        ensures numbers { IsStore self.new }
+    {
+        if self.closed {
+            return Err(StoreFault::Closed);
+        }
+        cite_laws();
+        if self.is_full(clients, &batch) {
+            return Err(StoreFault::Full);
+        }
+        let framed = self.frame(&batch)?;
+        self.state.reserve(&batch)?;
+        self.add(clients, framed.as_slice(), batch, id);
+        Ok(())
+    }
+
+    // Adds the batch in its frame to those that wait, with no memory.
+    fn add<C: Clients>(
+        &mut self,
+        clients: &C,
+        framed: &[u8],
+        batch: Batch,
+        id: Option<MessageId>,
+    )
+        requires still_open { self.old.closed ≡ false }
+        requires may { MayAdd (C.meaning clients.now) self.old batch framed.now }
+        requires kind { is_settling_kind batch ≡ false }
+        requires plain { is_account_kind batch ≡ false }
+        requires named { IsOfAll id batch }
+        requires room { HasRoom self.old.state batch }
+        requires waits { HasGroupRoom self.old }
+        ensures gains { GainsBatch self.old self.new batch }
+        ensures gathers { (before : StoreValue) → (more : List (List Entry))
+            → HasGathered (C.meaning clients.now) before self.old more
+            → HasGathered (C.meaning clients.now) before self.new (more ++ batch ∷ []) }
+        ensures knows { KnowsJudgements (C.meaning clients.now) self.old.state
+            → KnowsJudgements (C.meaning clients.now) self.new.state }
+        ensures numbers { IsStore self.new }
+    {
+        let _meaning = clients;
+        cite_laws();
+        self.waiting.add(framed);
+        self.state.take_known(batch, id);
+    }
+
+    // Adds the batches whose frames wait to the journal, in four calls of the disk whatever their
+    // number, or in none where none waits. At each moment the files stand for the journal before
+    // them or for it with all of them; after `Ok` every crash leaves the latter, and none waits.
+    // After `DiskFault` the store is closed.
+    pub(crate) fn flush<D: Disk, C: Clients>(
+        &mut self,
+        disk: &mut D,
+        clients: &C,
+    ) -> Result<(), StoreFault>
+        requires gathering { IsGathering (C.meaning clients.now) self.old (D.tells disk.old).files }
+        ensures ok { OnOk result (self.new ≡ record self.old { waiting = 0 ∷ [] }) }
+        ensures err { IfErr result (λ e. (e ≡ StoreFault.DiskFault)
+            × (self.new ≡ record self.old { closed = true })) }
+        ensures adds { (before : StoreValue) → IsStore before → (more : List (List Entry))
+            → HasGathered (C.meaning clients.now) before self.old more
+            → AddsAll (C.meaning clients.now) before self.new (D.tells disk.old)
+            (D.tells disk.new) more }
+        ensures ready { self.new.closed ≡ false
+            → IsReady (C.meaning clients.now) self.new (D.tells disk.new).files }
+        ensures calls { MakesCalls (flush_calls self.old.waiting) result (D.tells disk.old)
+            (D.tells disk.new) }
+        ensures run { DiskRun (D.tells disk.old) (D.tells disk.new) }
+        ensures numbers { IsStore self.new }
+        ensures fault { HasCause (D.tells disk.old).disk_faults (D.tells disk.new).disk_faults
+            result }
+    {
+        let _meaning = clients;
+        cite_laws();
+        match self.journal.flush(disk, &mut self.waiting) {
+            Ok(()) => Ok(()),
+            Err(_) => {
+                self.closed = true;
+                Err(StoreFault::DiskFault)
+            }
+        }
+    }
+}
