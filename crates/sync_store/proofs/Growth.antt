@@ -35,6 +35,7 @@ use Rattle.sync_store.specs.Store.{written_in}
 use Rattle.sync_store.specs.Commits.{GainsBatch, MayAdd, needed}
 use Rattle.sync_store.specs.Moments.{journal_with}
 use Rattle.sync_store.specs.Ready.{IsReady}
+use Rattle.sync_store.specs.Appending.{AppendsFor}
 use Rattle.sync_store.specs.Settling.{BatchSo, ComesBy, IsOneBatch, MakesBatch}
 use Rattle.sync_store.proofs.FitSteps.{IsSame, adds_err, adds_ok, fits_some_same, framed_len}
 use Rattle.sync_store.proofs.FitSteps.{true≢false}
@@ -264,8 +265,9 @@ pub filled_ok : JournalsStand → (clients : Meaning) (s new : StoreValue) (fact
     → ((two : Two File) → o.files ≡ Some two
     → PassedMoments two o o' s.file (BeforeOrWith (file_of two s.file).now s.end framed))
     → RelatesTold (AppendsFrame s.file s.end framed) o.files o'.files → MakesJust 4 o o'
+    → AppendsFor s new o o'
     → ComesBy clients s new o o' (es ∷ [])
-filled_ok stand clients s new facts es framed o o' f came end closed passed becomes made = record {
+filled_ok stand clients s new facts es framed o o' f came end closed passed becomes made appends = record {
   settling = ((f.some, f.few, f.settling), tt);
   facts = came.facts_are ∙ f.facts_are;
   file = came.file;
@@ -278,7 +280,7 @@ filled_ok stand clients s new facts es framed o o' f came end closed passed beco
       (adds_ok stand clients s new j two es framed tt o o' fits
       (filled_may clients s facts es framed f) told (passed two told) becomes
       (filled_gains clients s new facts es framed f came end closed));
-  calls = calls_one new o o' made;
+  calls = calls_one s new o o' made appends;
 }
 
 -- the disk failed
@@ -288,8 +290,8 @@ pub filled_err : JournalsStand → (clients : Meaning) (s new : StoreValue) (fac
     → Came s new facts → e ≡ fault.DiskFault → new.closed ≡ true
     → ((two : Two File) → o.files ≡ Some two
     → PassedMoments two o o' s.file (BeforeOrWith (file_of two s.file).now s.end framed))
-    → MakesAtMost 4 o o' → MakesBatch clients s new (Err e) o o'
-filled_err stand clients s new facts es framed e o o' f came is closed passed made = record {
+    → MakesAtMost 4 o o' → AppendsFor s new o o' → MakesBatch clients s new (Err e) o o'
+filled_err stand clients s new facts es framed e o o' f came is closed passed made appends = record {
   more = es ∷ [];
   comes = record {
     settling = ((f.some, f.few, f.settling), tt);
@@ -303,7 +305,7 @@ filled_err stand clients s new facts es framed e o o' f came is closed passed ma
         leads_one_closed clients j es new e o o'
         (adds_err stand clients s new j two es framed e o o' fits
         (filled_may clients s facts es framed f) (passed two told) closed) closed;
-    calls = calls_closed new o o' closed made;
+    calls = calls_closed s new o o' closed made appends;
   };
   few = omega arith;
   answer = subst (λ (x : StoreFault). BatchSo clients s new (es ∷ []) (Err x)) (sym is) closed;
@@ -317,12 +319,13 @@ pub filled_memory : JournalsStand → (clients : Meaning) (s new : StoreValue) (
     → ((two : Two File) → o.files ≡ Some two
     → PassedMoments two o o' s.file (BeforeOrWith (file_of two s.file).now s.end framed))
     → RelatesTold (AppendsFrame s.file s.end framed) o.files o'.files → MakesJust 4 o o'
+    → AppendsFor s new o o'
     → MakesBatch clients s new (Err e) o o'
-filled_memory stand clients s new facts es framed e o o' f came end closed is passed becomes made =
+filled_memory stand clients s new facts es framed e o o' f came end closed is passed becomes made appends =
     record {
       more = es ∷ [];
       comes =
-          filled_ok stand clients s new facts es framed o o' f came end closed passed becomes made;
+          filled_ok stand clients s new facts es framed o o' f came end closed passed becomes made appends;
       few = omega arith;
       answer = subst (λ (x : StoreFault). BatchSo clients s new (es ∷ []) (Err x)) (sym is) closed;
     }
@@ -335,9 +338,10 @@ pub filled_whole : JournalsStand → (clients : Meaning) (s new : StoreValue) (f
     → ((two : Two File) → o.files ≡ Some two
     → PassedMoments two o o' s.file (BeforeOrWith (file_of two s.file).now s.end framed))
     → RelatesTold (AppendsFrame s.file s.end framed) o.files o'.files → MakesJust 4 o o'
+    → AppendsFor s new o o'
     → length es ≡ n → (n ≡ MAX_STEPS) ⊎ IsSettled clients facts
     → MakesBatch clients s new (Ok u) o o'
-filled_whole stand clients s new facts es framed n u o o' f came end closed passed becomes made long
+filled_whole stand clients s new facts es framed n u o o' f came end closed passed becomes made appends long
     full =
     let less : left_of new.state.facts < left_of s.state.facts =
     subst (λ (g : Facts). left_of g < left_of s.state.facts) (sym came.facts_are)
@@ -350,7 +354,7 @@ filled_whole stand clients s new facts es framed n u o o' f came end closed pass
     record {
       more = es ∷ [];
       comes =
-          filled_ok stand clients s new facts es framed o o' f came end closed passed becomes made;
+          filled_ok stand clients s new facts es framed o o' f came end closed passed becomes made appends;
       few = omega arith;
       answer = (closed, less, each);
     }

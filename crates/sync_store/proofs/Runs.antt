@@ -20,6 +20,7 @@ use Rattle.sync_store.specs.Store.{StoreValue, HasNumbers, IsStore, counts_to, f
 use Rattle.sync_store.specs.Store.{written_in}
 use Rattle.sync_store.specs.Commits.{AnswersCommit, KeepsStore, UnaskedDisk, needed}
 use Rattle.sync_store.specs.Fitting.{FitsFiles, ImagesStand}
+use Rattle.sync_store.specs.Appending.{AppendsFor}
 use Rattle.sync_store.specs.Moments.{RunsCommit, IsBetween, JournalMoment}
 use Rattle.sync_store.specs.Runs.{AddsBatch, ExtendsSo, HasExtended, LeadsBy, RunsBy, committed_by}
 use Rattle.sync_store.specs.Settling.{HasSettled, SettlesSo}
@@ -88,7 +89,7 @@ runs_none images clients s new o store stays = record {
               (fits_same clients s new j two fits (same_store s new stays)),
         );
   };
-  calls = calls_none new o;
+  calls = calls_none s new o stays.end stays.closed;
 }
 
 -- ---- one commit
@@ -96,10 +97,10 @@ runs_none images clients s new o store stays = record {
 -- a batch was committed
 runs_committed : (clients : Meaning) (s new : StoreValue) (batch : List Entry) (u : Unit {0})
     (o o' : Outside) → Allowed clients s.state.facts batch → AnswersCommit s new batch (Ok u)
-    → DiskRun o o' → MakesJust 4 o o'
+    → DiskRun o o' → MakesJust 4 o o' → AppendsFor s new o o'
     → ((two : Two File) → o.files ≡ Some two → (j : List (List Entry)) → FitsFiles clients s j two
     → RunsCommit clients batch (Ok u) new o o' j) → RunsBy clients s new o o' (batch ∷ [])
-runs_committed clients s new batch u o o' allowed commits run made adds = record {
+runs_committed clients s new batch u o o' allowed commits run made appends adds = record {
   goes_on = (allowed, tt);
   facts = λ still. commits.2.facts;
   file = commits.2.file;
@@ -108,17 +109,17 @@ runs_committed clients s new batch u o o' allowed commits run made adds = record
   limit = commits.2.limit;
   run = run;
   leads = λ two told j fits. leads_one clients j batch new u o o' (adds two told j fits);
-  calls = calls_one new o o' made;
+  calls = calls_one s new o o' made appends;
 }
 
 -- the disk failed
 runs_broken : (clients : Meaning) (s new : StoreValue) (batch : List Entry) (o o' : Outside)
     → Allowed clients s.state.facts batch → AnswersCommit s new batch (Err fault.DiskFault)
-    → DiskRun o o' → MakesAtMost 4 o o'
+    → DiskRun o o' → MakesAtMost 4 o o' → AppendsFor s new o o'
     → ((two : Two File) → o.files ≡ Some two → (j : List (List Entry)) → FitsFiles clients s j two
     → RunsCommit clients batch (Err fault.DiskFault) new o o' j)
     → RunsBy clients s new o o' (batch ∷ [])
-runs_broken clients s new batch o o' allowed commits run made adds = record {
+runs_broken clients s new batch o o' allowed commits run made appends adds = record {
   goes_on = (allowed, tt);
   facts = λ still. true≢false new.closed commits.2.closed still;
   file = commits.2.file;
@@ -129,7 +130,7 @@ runs_broken clients s new batch o o' allowed commits run made adds = record {
   leads = λ two told j fits.
       leads_one_closed clients j batch new fault.DiskFault o o' (adds two told j fits)
       commits.2.closed;
-  calls = calls_closed new o o' commits.2.closed made;
+  calls = calls_closed s new o o' commits.2.closed made appends;
 }
 
 -- A commit, whatever it answered: `tells` says what a disk tells, `d` and `d'` are the disk before
@@ -139,24 +140,24 @@ pub runs_commit : ImagesStand → (clients : Meaning) (s new : StoreValue) (batc
     → IsStore new
     → s.closed ≡ false → Allowed clients s.state.facts batch → AnswersCommit s new batch result
     → UnaskedDisk result d d' → DiskRun (tells d) (tells d')
-    → MakesCalls 4 result (tells d) (tells d')
+    → MakesCalls 4 result (tells d) (tells d') → AppendsFor s new (tells d) (tells d')
     → ((two : Two File) → (tells d).files ≡ Some two → (j : List (List Entry))
     → FitsFiles clients s j two → RunsCommit clients batch result new (tells d) (tells d') j)
     → RunsBy clients s new (tells d) (tells d') (committed_by batch result)
 runs_commit images clients s new batch (Ok u) D tells d d' store opened allowed commits unasked run
-    made adds =
-    runs_committed clients s new batch u (tells d) (tells d') allowed commits run made.just adds
+    made appends adds =
+    runs_committed clients s new batch u (tells d) (tells d') allowed commits run made.just appends adds
 runs_commit images clients s new batch (Err fault.DiskFault) D tells d d' store opened allowed
-    commits unasked run made adds =
-    runs_broken clients s new batch (tells d) (tells d') allowed commits run made.most adds
+    commits unasked run made appends adds =
+    runs_broken clients s new batch (tells d) (tells d') allowed commits run made.most appends adds
 runs_commit images clients s new batch (Err fault.Closed) D tells d d' store opened allowed commits
-    unasked run made adds = true≢false s.closed commits.0 opened
+    unasked run made appends adds = true≢false s.closed commits.0 opened
 runs_commit images clients s new batch (Err fault.Full) D tells d d' store opened allowed commits
-    unasked run made adds =
+    unasked run made appends adds =
     subst (λ (x : D). RunsBy clients s new (tells d) (tells x) []) (sym unasked)
     (runs_none images clients s new (tells d) (store_back s new commits.2 store) commits.2)
 runs_commit images clients s new batch (Err fault.Memory) D tells d d' store opened allowed commits
-    unasked run made adds =
+    unasked run made appends adds =
     subst (λ (x : D). RunsBy clients s new (tells d) (tells x) []) (sym unasked)
     (runs_none images clients s new (tells d) (store_back s new commits.2 store) commits.2)
 
@@ -198,7 +199,7 @@ runs_then clients s0 s1 s2 o0 o1 o2 xs ys still first second =
       limit = second.limit ∙ first.limit;
       run = run_then o0 o1 o2 first.run second.run;
       leads = leads_then clients s0 s1 s2 o0 o1 o2 xs ys still first.run first.leads second.leads;
-      calls = calls_runs s1 s2 o0 o1 o2 xs ys still first.calls second.calls;
+      calls = calls_runs s0 s1 s2 o0 o1 o2 xs ys first.file still first.calls second.calls;
     }
 
 -- what one run leads to behind another
@@ -231,16 +232,16 @@ pub extends_failed : ImagesStand → (clients : Meaning) (s new : StoreValue) (b
     (e : StoreFault) (D : Type 0) (tells : D → Outside) (d d' : D) → IsStore new
     → s.closed ≡ false → Allowed clients s.state.facts batch → AnswersCommit s new batch (Err e)
     → UnaskedDisk (Err e) d d' → DiskRun (tells d) (tells d')
-    → MakesAtMost 4 (tells d) (tells d')
+    → MakesAtMost 4 (tells d) (tells d') → AppendsFor s new (tells d) (tells d')
     → ((two : Two File) → (tells d).files ≡ Some two → (j : List (List Entry))
     → FitsFiles clients s j two → RunsCommit clients batch (Err e) new (tells d) (tells d') j)
     → HasExtended clients s new batch (Err e) (tells d) (tells d')
 extends_failed images clients s new batch e D tells d d' store opened allowed commits unasked run
-    made adds = record {
+    made appends adds = record {
       more = committed_by batch (Err e);
       runs =
           runs_commit images clients s new batch (Err e) D tells d d' store opened allowed commits
-          unasked run (record { just = tt; most = made }) adds;
+          unasked run (record { just = tt; most = made }) appends adds;
       adds = adds_by clients s.state.facts batch e;
       answer = failed_so clients s new batch e opened commits;
     }
@@ -259,17 +260,17 @@ settled_so clients s new batch rest (Err fault.DiskFault) roomy so = (so, roomy)
 pub extends_settled : (clients : Meaning) (s mid new : StoreValue) (batch : List Entry)
     (u : Unit {0}) (result : Result (Unit {0}) StoreFault) (o o1 o2 : Outside)
     → Allowed clients s.state.facts batch
-    → AnswersCommit s mid batch (Ok u) → DiskRun o o1 → MakesJust 4 o o1
+    → AnswersCommit s mid batch (Ok u) → DiskRun o o1 → MakesJust 4 o o1 → AppendsFor s mid o o1
     → ((two : Two File) → o.files ≡ Some two → (j : List (List Entry)) → FitsFiles clients s j two
     → RunsCommit clients batch (Ok u) mid o o1 j)
     → HasSettled clients mid new result o1 o2 → DiskRun o1 o2
     → HasExtended clients s new batch result o o2
-extends_settled clients s mid new batch u result o o1 o2 allowed commits run made adds has run' =
+extends_settled clients s mid new batch u result o o1 o2 allowed commits run made appends adds has run' =
     record {
       more = batch ∷ has.more;
       runs =
           runs_then clients s mid new o o1 o2 (batch ∷ []) has.more commits.2.closed
-          (runs_committed clients s mid batch u o o1 allowed commits run made adds)
+          (runs_committed clients s mid batch u o o1 allowed commits run made appends adds)
           (runs_settled clients mid new result o1 o2 has run');
       adds = (
         refl,

@@ -1,9 +1,9 @@
 -- What a run of a store's calls leaves at each moment, and at its end, in words of the whole
 -- journal that the files stand for.
-use Rattle.std.specs.Prelude.{◌≡◌, ◌⊎◌, ℕ, ◌*◌, false, List, [], ◌∷◌, ◌++◌, Some, Result, Ok, Err}
+use Rattle.std.specs.Prelude.{◌≡◌, ◌⊎◌, ℕ, false, List, [], ◌∷◌, ◌++◌, Some, Result, Ok, Err}
 use Rattle.outside.specs.Files.{Two, File}
 use Rattle.outside.specs.Links.{sent_of}
-use Rattle.outside.specs.Outside.{Outside, Moment, MomentsAre, MakesAtMost, MakesJust}
+use Rattle.outside.specs.Outside.{Outside, Moment, MomentsAre}
 use Rattle.sync_rules.specs.declared.entries.Entry.{Entry}
 use Rattle.sync_rules.specs.Clients.{Meaning}
 use Rattle.entry_codec.specs.Standing.{journal}
@@ -27,12 +27,6 @@ pub record LeadsTo (clients : Meaning) (P Q : List (List Entry) → Type 0) (s :
   pub moments : MomentsAre old new (JournalMoment clients P (sent_of old.links.told))
   pub ends : s.closed ≡ false → (two : Two File) → new.files ≡ Some two
       → (whole : List (List Entry)) × Q whole × FitsFiles clients s whole two
-
--- How many calls of the disk so many batches take: four each, and where a call failed, so that the
--- store is closed, no more.
-pub record CallsFor (batches : ℕ) (s : StoreValue) (old new : Outside) : Type 0 where
-  pub just : s.closed ≡ false → MakesJust (4 * batches) old new
-  pub most : MakesAtMost (4 * batches) old new
 
 -- ---- one batch
 

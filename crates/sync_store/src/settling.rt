@@ -14,6 +14,7 @@ ghost use Rattle.sync_rules.specs.Facts.{after_all};
 ghost use Rattle.sync_rules.specs.Legal.{IsSettling};
 ghost use Rattle.sync_rules.specs.Steps.{IsSettled};
 ghost use Rattle.entry_codec.specs.Standing.{room_of};
+ghost use Rattle.sync_store.specs.Appending.{AppendsFor};
 ghost use Rattle.sync_store.specs.Ready.{IsReady};
 ghost use Rattle.sync_store.specs.Store.{IsStore, written_in};
 ghost use Rattle.sync_store.specs.Settling.{HasSettled, MakesBatch};
@@ -140,6 +141,7 @@ impl Store {
             → PassedMoments two (D.tells disk.old) (D.tells disk.new) self.old.file
             (BeforeOrWith (file_of two self.old.file).now self.old.end framed.now) }
         ensures calls { MakesCalls 4 result (D.tells disk.old) (D.tells disk.new) }
+        ensures appends { AppendsFor self.old self.new (D.tells disk.old) (D.tells disk.new) }
         ensures run { DiskRun (D.tells disk.old) (D.tells disk.new) }
         ensures numbers { IsStore self.new }
         ensures fault { HasCause (D.tells disk.old).disk_faults (D.tells disk.new).disk_faults

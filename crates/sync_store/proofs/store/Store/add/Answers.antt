@@ -16,6 +16,9 @@ use Rattle.sync_store.proofs.FitSteps.{adds_err, adds_ok, framed_len, rests}
 use Rattle.sync_store.proofs.Growth.{grown_store}
 use Rattle.sync_store.proofs.Limits.{counts_few, few_held}
 use Rattle.sync_store.proofs.SettleSteps.{adds_ready_fits}
+use Rattle.sync_store.proofs.SettleSteps.{appends_failed, appends_framed}
+use Rattle.sync_store.specs.Appending.{AppendsFor}
+use Rattle.std.proofs.Common.{true}
 use Rattle.sync_store.proofs.store.Store.add.Goals as goal
 
 -- what the store becomes once the frame is added and the batch taken
@@ -182,3 +185,28 @@ returns-in-Ok-clause-ok g c =
     (ap (λ (j : JournalValue). j.end) c.in-Ok.ensures.ok)
     (ap (λ (j : JournalValue). j.format) c.in-Ok.ensures.ok)
     (ap (λ (j : JournalValue). j.generation) c.in-Ok.ensures.ok))
+
+pub returns-in-Ok-clause-appends : goal.returns-in-Ok-clause-appends
+returns-in-Ok-clause-appends g c =
+    subst (λ (v : StoreValue).
+    AppendsFor v (value_of (record {
+      alloc = c.self.inside.alloc;
+      state = c.take_known.new.self;
+      journal = c.append.new.self;
+      limit = c.self.inside.limit;
+      closed = c.self.inside.closed;
+    })) (g.D.Disk.tells c.args.disk.now) (g.D.Disk.tells c.append.new.disk)) c.self.view_is
+    (appends_framed (value_of c.self.inside) _ c.args.framed.now _ _ c.requires.may.is_framed
+    (ap (λ (j : JournalValue). j.end) c.in-Ok.ensures.ok) refl c.in-Ok.ensures.does)
+
+pub returns-in-Err-clause-appends : goal.returns-in-Err-clause-appends
+returns-in-Err-clause-appends g c =
+    subst (λ (v : StoreValue).
+    AppendsFor v (value_of (record {
+      alloc = c.self.inside.alloc;
+      state = c.self.inside.state;
+      journal = c.append.new.self;
+      limit = c.self.inside.limit;
+      closed = true;
+    })) (g.D.Disk.tells c.args.disk.now) (g.D.Disk.tells c.append.new.disk)) c.self.view_is
+    (appends_failed (value_of c.self.inside) _ c.args.framed.now _ _ c.requires.may.is_framed refl c.in-Err.ensures.does)

@@ -21,7 +21,7 @@ returns-in_err-commit_known-clause-extended g c still =
     c.args.disk.now c.commit_known.new.disk c.commit_known.ensures.numbers still
     (c.requires.allowed still)
     c.in_err-commit_known.ensures.answer c.in_err-commit_known.ensures.unasked
-    c.commit_known.ensures.run c.in_err-commit_known.ensures.calls.most
+    c.commit_known.ensures.run c.in_err-commit_known.ensures.calls.most c.in_err-commit_known.ensures.appends
     (c.in_err-commit_known.ensures.extends still))
 
 pub returns-in_err-commit_known-clause-closed : goal.returns-in_err-commit_known-clause-closed
@@ -50,7 +50,8 @@ returns-clause-extended g c still =
     extends_settled clients c.args.self.now c.commit_known.new.self c.settle.new.self c.args.batch
     tt c.settle.result (g.D.Disk.tells c.args.disk.now) (g.D.Disk.tells c.commit_known.new.disk)
     (g.D.Disk.tells c.settle.new.disk) (c.requires.allowed still) answer c.commit_known.ensures.run
-    c.in_ok-commit_known.ensures.calls.just (c.in_ok-commit_known.ensures.extends still)
+    c.in_ok-commit_known.ensures.calls.just c.in_ok-commit_known.ensures.appends
+    (c.in_ok-commit_known.ensures.extends still)
     (c.settle.ensures.settled answer.2.closed) c.settle.ensures.run
 
 pub returns-clause-closed : goal.returns-clause-closed

@@ -19,7 +19,7 @@ returns-in_err-entries-clause-made g c =
     (comes_none c.cite_laws.ensures.stand clients s s o
     (subst IsStore c.self.view_is c.self.invariant)
     (record { facts = refl; file = refl; format = refl; generation = refl; end = refl })
-    refl) refl c.requires.ready.still_open)
+    refl refl) refl c.requires.ready.still_open)
 
 pub returns-in_err-framed-clause-made : goal.returns-in_err-framed-clause-made
 returns-in_err-framed-clause-made g c =
@@ -33,4 +33,4 @@ returns-in_err-framed-clause-made g c =
     (comes_none c.cite_laws.ensures.stand clients s s o
     (subst IsStore c.self.view_is c.self.invariant)
     (record { facts = refl; file = refl; format = refl; generation = refl; end = refl })
-    refl) refl c.requires.ready.still_open)
+    refl refl) refl c.requires.ready.still_open)

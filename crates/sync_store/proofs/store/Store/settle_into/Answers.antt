@@ -51,7 +51,7 @@ returns-in_err-filled-clause-made g c =
     (subst (λ (v : StoreValue). MakesBatch clients v new (Err fault.Memory) o o) c.self.view_is
     (made_none clients s new fault.Memory o o
     (comes_none c.cite_laws.ensures.stand clients s new o c.self.invariant
-    (record { facts = facts; file = refl; format = refl; generation = refl; end = refl }) refl)
+    (record { facts = facts; file = refl; format = refl; generation = refl; end = refl }) refl refl)
     refl still))
 
 pub frame_steps-requires-clause-steps : goal.frame_steps-requires-clause-steps
@@ -153,7 +153,8 @@ returns-in_err-write-clause-made g c =
     (subst (λ (v : StoreValue). MakesBatch clients v c.write.new.self (Err e) o o') c.self.view_is
     (filled_err c.cite_laws.ensures.stand clients s c.write.new.self c.fill-filled.new.state.facts
     es framed e o o' filled came failed.0 (ap (λ (v : StoreValue). v.closed) failed.1)
-    c.in_err-write.ensures.any_moment c.in_err-write.ensures.calls.most))
+    c.in_err-write.ensures.any_moment c.in_err-write.ensures.calls.most
+    (record { all = c.in_err-write.ensures.appends.all; broken = c.in_err-write.ensures.appends.broken })))
 
 pub returns-in_err-filled-2-clause-made : goal.returns-in_err-filled-2-clause-made
 returns-in_err-filled-2-clause-made g c =
@@ -193,7 +194,8 @@ returns-in_err-filled-2-clause-made g c =
     (filled_memory c.cite_laws.ensures.stand clients s c.write.new.self
     c.fill-filled.new.state.facts es framed fault.Memory o o' filled came end closed refl
     c.in_ok-write.ensures.any_moment
-    c.in_ok-write.ensures.appended c.in_ok-write.ensures.calls.just))
+    c.in_ok-write.ensures.appended c.in_ok-write.ensures.calls.just
+    (record { all = c.in_ok-write.ensures.appends.all; broken = c.in_ok-write.ensures.appends.broken })))
 
 pub returns-clause-made : goal.returns-clause-made
 returns-clause-made g c =
@@ -228,6 +230,7 @@ returns-clause-made g c =
     (filled_whole c.cite_laws.ensures.stand clients s c.write.new.self c.fill-filled.new.state.facts
     es framed _ tt o o' filled came end closed c.in_ok-write.ensures.any_moment
     c.in_ok-write.ensures.appended c.in_ok-write.ensures.calls.just
+    (record { all = c.in_ok-write.ensures.appends.all; broken = c.in_ok-write.ensures.appends.broken })
     c.as_slice.ensures.len c.in_ok-filled-2.ensures.full)
 
 pub frame_steps-requires-clause-named : goal.frame_steps-requires-clause-named
