@@ -11,3 +11,4 @@ pub mod Read
 pub mod Prepared
 pub mod Framed
 pub mod Closed
+pub mod Appending

@@ -3,7 +3,8 @@ use Rattle.std.proofs.Common.{◌≡◌, ℕ, zero, suc, ◌+◌, ◌-◌, ◌�
 use Rattle.std.specs.Int.{w32, to_be_bytes}
 use Rattle.std.proofs.lemmas.List.{take-append-le, drop-drop}
 use Rattle.outside.specs.Files.{Two, File, file_of, read_files}
-use Rattle.outside.specs.Disk.{ReadsBytes}
+use Rattle.outside.specs.Calls.{ChangesNone}
+use Rattle.outside.specs.Disk.{ReadsBytes, RelatesTold}
 use Rattle.outside.specs.Frames.{framed, format_in, generation_in}
 use Rattle.outside.specs.Outside.{Outside, DiskCall, OnlyReads}
 use Rattle.outside.proofs.CallSteps.{looks_none, looks_call}
@@ -11,8 +12,9 @@ use Rattle.frame_journal.specs.Header.{begun_at}
 use Rattle.frame_journal.specs.Journal.{JournalValue}
 use Rattle.frame_journal.specs.Next.{IsOpenGate, FrameRead}
 
-pub looks_once : (o o' : Outside) → DiskCall o o' → o'.files ≡ o.files → o.disk_faults ≤ o'.disk_faults → OnlyReads o o'
-looks_once o o' call same later = looks_call o o o' (looks_none o) call same later
+pub looks_once : (o o' : Outside) → DiskCall o o' → o'.files ≡ o.files → o.disk_faults ≤ o'.disk_faults
+    → RelatesTold ChangesNone o.calls o'.calls → OnlyReads o o'
+looks_once o o' call same later unchanged = looks_call o o o' (looks_none o) call same later unchanged
 
 -- what a read into a part of a buffer gave
 pub gate_count : (bytes buf : List ℕ) (place len n room : ℕ) → ReadsBytes bytes place buf n → length buf ≡ room → room ≡ min (len - place) 5 → length bytes ≡ len → n ≡ min 5 (len - place)

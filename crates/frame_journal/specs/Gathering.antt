@@ -1,11 +1,13 @@
 -- Frames that come to a journal one by one, and are added to it in groups.
-use Rattle.std.specs.Prelude.{◌≡◌, ℕ, ◌+◌, nat_le, cond, List, ◌++◌, length, Option}
+use Rattle.std.specs.Prelude.{◌≡◌, ℕ, ◌+◌, nat_le, cond, List, [], ◌++◌, length, Option}
 use Rattle.std.specs.List.{flat_map}
+use Rattle.outside.specs.Changes.{Change}
 use Rattle.outside.specs.Disk.{RelatesTold}
 use Rattle.outside.specs.Files.{Two, File, file_of}
 use Rattle.outside.specs.Frames.{HasFrames, end_of, frame_of}
 use Rattle.outside.specs.Steps.{other_of}
 use Rattle.frame_journal.specs.declared.group.TheConstants.{MAX_GROUP}
+use Rattle.frame_journal.specs.Appends.{group_calls}
 use Rattle.frame_journal.specs.Group.{IsJoined, flush_calls}
 use Rattle.frame_journal.specs.Journal.{JournalValue}
 
@@ -48,3 +50,8 @@ pub record GathersFrames (n n' : JournalValue) (group group' : List ℕ) (added 
 -- how many calls of the disk it takes to make room for a frame of so many bytes
 abbrev pub room_calls : List ℕ → ℕ → ℕ
 room_calls group len = cond (nat_le (length group + len) (MAX_GROUP + 1)) 0 (flush_calls group)
+
+-- and which
+abbrev pub making_room : ℕ → ℕ → List ℕ → ℕ → List (Option Change)
+making_room file end group len =
+    cond (nat_le (length group + len) (MAX_GROUP + 1)) [] (group_calls file end group)

@@ -6,3 +6,4 @@ pub mod Gathering
 pub mod Create
 pub mod Header
 pub mod Next
+pub mod Appends

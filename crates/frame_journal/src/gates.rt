@@ -1,14 +1,17 @@
 //! Syncs of both files, and the gates of a journal's file.
-ghost use Rattle.std.specs.Prelude.{◌≡◌, ◌<◌, ◌≤◌, ◌-◌, Some, true, false, nat_lt, not, ◌&&◌};
+ghost use Rattle.std.specs.Prelude.{◌≡◌, ◌<◌, ◌≤◌, ◌-◌, [], ◌∷◌, Some, true, false, nat_lt, not, ◌&&◌};
 ghost use Rattle.std.specs.Prelude.{◌==◌, length, OnOk};
 ghost use Rattle.std.specs.Option.{ForSome};
 ghost use Rattle.outside.specs.Faults.{HasCause};
 ghost use Rattle.outside.specs.Files.{File, NothingPending, ReadsSame, SyncsBoth, Two, file_of};
+ghost use Rattle.outside.specs.Changes.{synced};
 ghost use Rattle.outside.specs.Disk.{RelatesTold};
+ghost use Rattle.outside.specs.Made.{DoesCalls};
 ghost use Rattle.outside.specs.Frames.{is_open};
 ghost use Rattle.outside.specs.Outside.{AnyImage, DiskRun, MakesAtMost, MakesCalls, MakesJust};
 ghost use Rattle.outside.specs.Steps.{PassedMoments};
 ghost use Rattle.frame_journal.specs.Append.{WritesAndOpensGate, Gated};
+ghost use Rattle.frame_journal.specs.Appends.{append_calls, write_calls};
 ghost use Rattle.frame_journal.specs.Create.{IsCleared, ClearsFile, CreatesJournal, PreparesJournal, behind_gate};
 ghost use Rattle.frame_journal.specs.Create.{ShutOrBegun, BeforeOrShut, HasShutGate, ShutsGate};
 ghost use Rattle.frame_journal.specs.Create.{CutsToFirstByte, IsPrepared, PublishesHeader, ShutOrOpened};
@@ -32,6 +35,8 @@ pub fn barrier<D: Disk>(disk: &mut D) -> Result<(), DiskFault>
     ensures run { DiskRun (D.tells disk.old) (D.tells disk.new) }
     ensures fault { HasCause (D.tells disk.old).disk_faults (D.tells disk.new).disk_faults result }
     ensures calls { MakesCalls 2 result (D.tells disk.old) (D.tells disk.new) }
+    ensures does { DoesCalls (Some (synced 0) ∷ Some (synced 1) ∷ []) result (D.tells disk.old)
+        (D.tells disk.new) }
 {
     disk.sync(0)?;
     disk.sync(1)?;
@@ -59,6 +64,8 @@ pub fn write_behind<D: Disk>(
     ensures run { DiskRun (D.tells disk.old) (D.tells disk.new) }
     ensures fault { HasCause (D.tells disk.old).disk_faults (D.tells disk.new).disk_faults result }
     ensures calls { MakesCalls 2 result (D.tells disk.old) (D.tells disk.new) }
+    ensures does { DoesCalls (write_calls file end bytes.now) result (D.tells disk.old)
+        (D.tells disk.new) }
 {
     disk.write_at(file, end, bytes)?;
     disk.sync(file)?;
@@ -82,6 +89,8 @@ pub fn open_gate<D: Disk>(disk: &mut D, file: u8, end: u64) -> Result<(), DiskFa
     ensures run { DiskRun (D.tells disk.old) (D.tells disk.new) }
     ensures fault { HasCause (D.tells disk.old).disk_faults (D.tells disk.new).disk_faults result }
     ensures calls { MakesCalls 2 result (D.tells disk.old) (D.tells disk.new) }
+    ensures does { DoesCalls (write_calls file (end - 1) (1 ∷ [])) result (D.tells disk.old)
+        (D.tells disk.new) }
 {
     disk.write_at(file, end - 1, &[1])?;
     disk.sync(file)?;
@@ -105,6 +114,8 @@ pub fn open_behind<D: Disk>(disk: &mut D, file: u8, end: u64, bytes: &[u8]) -> R
     ensures run { DiskRun (D.tells disk.old) (D.tells disk.new) }
     ensures fault { HasCause (D.tells disk.old).disk_faults (D.tells disk.new).disk_faults result }
     ensures calls { MakesCalls 4 result (D.tells disk.old) (D.tells disk.new) }
+    ensures does { DoesCalls (append_calls file end bytes.now) result (D.tells disk.old)
+        (D.tells disk.new) }
 {
     write_behind(disk, file, end, bytes)?;
     open_gate(disk, file, end)

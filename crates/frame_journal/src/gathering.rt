@@ -6,11 +6,12 @@ ghost use Rattle.outside.specs.Disk.{RelatesTold};
 ghost use Rattle.outside.specs.Faults.{HasCause};
 ghost use Rattle.outside.specs.Files.{Two, File, file_of};
 ghost use Rattle.outside.specs.Frames.{IsAtRest};
+ghost use Rattle.outside.specs.Made.{DoesCalls};
 ghost use Rattle.outside.specs.Outside.{DiskRun, MakesCalls};
 ghost use Rattle.outside.specs.Steps.{PassedMoments};
 ghost use Rattle.frame_journal.specs.Append.{IsFramed, payload_of};
 ghost use Rattle.frame_journal.specs.Create.{LeavesClosed};
-ghost use Rattle.frame_journal.specs.Gathering.{GathersFrames, room_calls};
+ghost use Rattle.frame_journal.specs.Gathering.{GathersFrames, making_room, room_calls};
 ghost use Rattle.frame_journal.specs.Group.{BeforeOrWithAll, IsGroup, group_len};
 
 use crate::{DiskFault, Group, Journal, MAX_GROUP};
@@ -47,6 +48,8 @@ impl Journal {
             result }
         ensures calls { MakesCalls (room_calls group.old len) result (D.tells disk.old)
             (D.tells disk.new) }
+        ensures does { DoesCalls (making_room self.old.file self.old.end group.old len)
+            result (D.tells disk.old) (D.tells disk.new) }
     {
         if group.has_room(len) {
             return Ok(());
@@ -85,6 +88,8 @@ impl Journal {
             result }
         ensures calls { MakesCalls (room_calls group.old (length framed.now)) result
             (D.tells disk.old) (D.tells disk.new) }
+        ensures does { DoesCalls (making_room self.old.file self.old.end group.old (length framed.now))
+            result (D.tells disk.old) (D.tells disk.new) }
     {
         self.make_room(disk, group, framed.len())?;
         group.add(framed);

@@ -1,5 +1,5 @@
 //! The journal's file: its frames are read in order, and then further ones are added.
-ghost use Rattle.std.specs.Prelude.{◌≡◌, ◌+◌, ◌<◌, ◌≤◌, true, max, Some, length, OnOk, OnErr, IfOk};
+ghost use Rattle.std.specs.Prelude.{◌≡◌, ◌+◌, ◌<◌, ◌≤◌, true, drop, max, Some, length, OnOk, OnErr, IfOk};
 ghost use Rattle.std.specs.Prelude.{IsErrOf, vec_len, [], ◌∷◌};
 ghost use Rattle.frame_journal.specs.Header.{StartsJournal};
 ghost use Rattle.frame_journal.specs.Next.{IsNextFrame, MovesReader, OnTrue, ReadsNext};
@@ -9,9 +9,11 @@ ghost use Rattle.outside.specs.Faults.{HasCause, CountRose};
 ghost use Rattle.outside.specs.Files.{Two, File, file_of, read_files};
 ghost use Rattle.outside.specs.Links.{sent_of};
 ghost use Rattle.outside.specs.Outside.{DiskRun, OnlyReads, MakesCalls};
+ghost use Rattle.outside.specs.Made.{DoesCalls};
 ghost use Rattle.outside.specs.Disk.{RelatesTold};
 ghost use Rattle.outside.specs.Frames.{IsAtRest};
 ghost use Rattle.outside.specs.Steps.{PassedMoments};
+ghost use Rattle.frame_journal.specs.Appends.{append_calls, group_calls};
 ghost use Rattle.frame_journal.specs.Append.{IsFramed, AppendsFrame, BeforeOrWith};
 ghost use Rattle.frame_journal.specs.Group.{AppendsFrames, BeforeOrWithAll, IsGroup, flush_calls};
 ghost use Rattle.frame_journal.specs.Group.{flushed, group_len, moved_on};
@@ -191,6 +193,8 @@ impl Journal {
         ensures fault { HasCause (D.tells disk.old).disk_faults (D.tells disk.new).disk_faults
             result }
         ensures calls { MakesCalls 4 result (D.tells disk.old) (D.tells disk.new) }
+        ensures does { DoesCalls (append_calls self.old.file self.old.end framed.now)
+            result (D.tells disk.old) (D.tells disk.new) }
     {
         open_behind(disk, self.file, self.end, framed)?;
         self.end += framed.len() as u64;
@@ -223,6 +227,8 @@ impl Journal {
         ensures fault { HasCause (D.tells disk.old).disk_faults (D.tells disk.new).disk_faults
             result }
         ensures calls { MakesCalls 4 result (D.tells disk.old) (D.tells disk.new) }
+        ensures does { DoesCalls (append_calls self.old.file self.old.end (drop 1 group.now))
+            result (D.tells disk.old) (D.tells disk.new) }
     {
         let framed = &group[1..];
         open_behind(disk, self.file, self.end, framed)?;
@@ -255,6 +261,8 @@ impl Journal {
             result }
         ensures calls { MakesCalls (flush_calls group.old) result (D.tells disk.old)
             (D.tells disk.new) }
+        ensures does { DoesCalls (group_calls self.old.file self.old.end group.old)
+            result (D.tells disk.old) (D.tells disk.new) }
     {
         if group.is_empty() {
             return Ok(());

@@ -12,6 +12,7 @@ use Rattle.sync_rules.specs.Facts.{after_all}
 use Rattle.sync_rules.specs.Legal.{Allowed}
 use Rattle.sync_store.specs.declared.fault.StoreFault.{StoreFault}
 use Rattle.sync_store.specs.declared.fault.StoreFault.TheVariants as fault
+use Rattle.sync_store.specs.Appending.{AppendsFor}
 use Rattle.sync_store.specs.Commits.{AnswersCommit, KeepsStore, UnaskedDisk, needed}
 use Rattle.sync_store.specs.Fitting.{FitsFiles, ImagesStand}
 use Rattle.sync_store.specs.Moments.{RunsCommit}
@@ -65,17 +66,17 @@ pub has_committed : ImagesStand → (clients : Meaning) (s new : StoreValue) (ba
     → Allowed clients s.state.facts batch
     → AnswersCommit s new batch result → UnaskedDisk result d d' → DiskRun (tells d) (tells d')
     → MakesCalls 4 result (tells d)
-    (tells d')
+    (tells d') → AppendsFor s new (tells d) (tells d')
     → ((two : Two File) → (tells d).files ≡ Some two → (j : List (List Entry))
     → FitsFiles clients s j two
     → RunsCommit clients batch result new (tells d) (tells d') j)
     → HasCommitted clients s new batch result (tells d) (tells d')
 has_committed images clients s new batch result D tells d d' store opened allowed commits unasked
-    run made adds = record {
+    run made appends adds = record {
       comes = record {
         runs =
             runs_commit images clients s new batch result D tells d d' store opened allowed commits
-            unasked run made adds;
+            unasked run made appends adds;
         roomy = λ two told j fits. commit_roomy clients s new batch result commits two j fits;
       };
       answer = commits;

@@ -1,10 +1,10 @@
 -- How many calls of a disk a run makes, one call or one run more at a time.
-use Rattle.std.proofs.Common.{◌≡◌, ℕ, zero, suc, ◌+◌, ◌≤◌, [], Result, Ok, Err, refl, sym, ap, ◌∙◌, arith, add-zero}
+use Rattle.std.proofs.Common.{◌≡◌, ℕ, zero, suc, ◌+◌, ◌≤◌, Result, Ok, Err, refl, sym, ap, ◌∙◌, arith, add-zero}
 use Rattle.outside.specs.Faults.{one_more}
 use Rattle.outside.specs.Calls.{Calls, CallsGoOn, OneCall, NoCall, more_calls}
 use Rattle.outside.specs.Disk.{RelatesTold}
 use Rattle.outside.specs.Outside.{Outside, Moment, DiskCall, LinkCall, MakesJust, MakesAtMost, MakesCalls}
-use Rattle.outside.proofs.CallSteps.{becomes_none, becomes_map, becomes_then, go_on_none, go_on_then}
+use Rattle.outside.proofs.CallSteps.{becomes_none, becomes_map, becomes_then, change_none, change_then, go_on_none, go_on_then}
 
 -- ---- just so many
 
@@ -18,7 +18,7 @@ just_call n o0 o o' run call = record {
       (λ a b c first one. one.made ∙ ap one_more first) run.made call.calls;
 }
 
-more_calls-add : (m n made : ℕ) → more_calls (m + n) made ≡ more_calls n (more_calls m made)
+pub more_calls-add : (m n made : ℕ) → more_calls (m + n) made ≡ more_calls n (more_calls m made)
 more_calls-add m zero made = ap (λ (k : ℕ). more_calls k made) (add-zero m)
 more_calls-add m (suc n) made =
     let one : m + suc n ≡ suc (m + n) = omega arith in
@@ -89,13 +89,20 @@ calls_then m n (Err _) o0 o1 o2 first second = record { just = tt; most = most_t
 
 -- ---- no call
 
+pub no_call_same : (a : Calls) → NoCall a a
+no_call_same a = record { goes_on = go_on_none a; made = refl; unchanged = change_none a }
+
 pub no_call_none : (o : Outside) → RelatesTold NoCall o.calls o.calls
-no_call_none o = becomes_none NoCall o.calls (λ a. record { goes_on = go_on_none a; made = refl })
+no_call_none o = becomes_none NoCall o.calls (λ a. no_call_same a)
 
 pub no_call_then : (o0 o1 o2 : Outside) → RelatesTold NoCall o0.calls o1.calls → RelatesTold NoCall o1.calls o2.calls → RelatesTold NoCall o0.calls o2.calls
 no_call_then o0 o1 o2 first second =
     becomes_then NoCall NoCall NoCall o0.calls o1.calls o2.calls
-    (λ a b c f s. record { goes_on = go_on_then a b c f.goes_on s.goes_on; made = s.made ∙ f.made }) first second
+    (λ a b c f s. record {
+      goes_on = go_on_then a b c f.goes_on s.goes_on;
+      made = s.made ∙ f.made;
+      unchanged = change_then a b c f.unchanged s.unchanged;
+    }) first second
 
 pub no_call_goes_on : (o o' : Outside) → RelatesTold NoCall o.calls o'.calls → RelatesTold CallsGoOn o.calls o'.calls
 no_call_goes_on o o' none = becomes_map NoCall CallsGoOn o.calls o'.calls (λ a b n. n.goes_on) none

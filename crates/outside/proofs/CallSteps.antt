@@ -5,7 +5,9 @@ use Rattle.outside.specs.declared.failed.Failed.{Failed}
 use Rattle.outside.specs.Files.{Two, File, IsFileImage, IsImage, file_of, with_file, settled}
 use Rattle.outside.specs.Links.{Links, sent_of}
 use Rattle.outside.specs.Outside.{Outside, Moment, IsNow, LetsTimePass, DiskCall, LinkCall, MomentsAre, DiskRun, OnlyReads}
-use Rattle.outside.specs.Calls.{Calls, CallsGoOn, OneCall, NoCall}
+use Rattle.outside.specs.Calls.{Calls, CallsGoOn, ChangesNone, OneCall, NoCall}
+use Rattle.outside.specs.Changes.{of_disk, on_disk}
+use Rattle.std.proofs.lemmas.List.Concat.{flat_map-append}
 use Rattle.outside.specs.Changes.{Change}
 use Rattle.outside.specs.Disk.{RelatesTold, WritesFile, CutsFile, SyncsFile, after_write, after_cut, overwritten}
 use Rattle.outside.specs.Steps.{other_of, FileMoment, ReachedFile, PassedMoments}
@@ -105,6 +107,16 @@ go_on_then a b c first second = record {
   later = omega (arith, first.later, second.later);
 }
 
+pub change_none : (a : Calls) → ChangesNone a a
+change_none a = record { more = []; grown = sym (append-nil a.changes); none = refl }
+
+pub change_then : (a b c : Calls) → ChangesNone a b → ChangesNone b c → ChangesNone a c
+change_then a b c first second = record {
+  more = first.more ++ second.more;
+  grown = second.grown ∙ ap (λ (l : List Change). l ++ second.more) first.grown ∙ append_assoc a.changes first.more second.more;
+  none = flat_map-append on_disk first.more second.more ∙ ap (λ (l : List Change). l ++ of_disk second.more) first.none ∙ second.none;
+}
+
 pub calls_none : (o : Outside) → RelatesTold CallsGoOn o.calls o.calls
 calls_none o = becomes_none CallsGoOn o.calls go_on_none
 
@@ -143,15 +155,22 @@ pub now_images : (o o' : Outside) (two : Two File) → o'.files ≡ Some two →
 now_images o o' two files links m w = subst (λ (l : Links). IsNow two l m) links (o'.now_is two m files w)
 
 pub looks_none : (o : Outside) → OnlyReads o o
-looks_none o = record { same_files = refl; run = run_none o; moments = λ two files. moments_none o _ (now_images o o two files refl) }
+looks_none o = record {
+  same_files = refl;
+  run = run_none o;
+  moments = λ two files. moments_none o _ (now_images o o two files refl);
+  unchanged = becomes_none ChangesNone o.calls change_none;
+}
 
-pub looks_call : (o0 o o' : Outside) → OnlyReads o0 o → DiskCall o o' → o'.files ≡ o.files → o.disk_faults ≤ o'.disk_faults → OnlyReads o0 o'
-looks_call o0 o o' looks call same later = record {
+pub looks_call : (o0 o o' : Outside) → OnlyReads o0 o → DiskCall o o' → o'.files ≡ o.files → o.disk_faults ≤ o'.disk_faults
+    → RelatesTold ChangesNone o.calls o'.calls → OnlyReads o0 o'
+looks_call o0 o o' looks call same later unchanged = record {
   same_files = same ∙ looks.same_files;
   run = run_call o0 o o' looks.run call later;
   moments = λ two files.
       moments_call o0 o o' (IsNow two o0.links) (looks.moments two files) call
       (now_images o0 o' two (same ∙ looks.same_files ∙ files) (call.same_links ∙ looks.run.same_links));
+  unchanged = becomes_then ChangesNone ChangesNone ChangesNone o0.calls o.calls o'.calls change_then looks.unchanged unchanged;
 }
 
 pub looks_then : (o0 o1 o2 : Outside) → OnlyReads o0 o1 → OnlyReads o1 o2 → OnlyReads o0 o2
@@ -161,6 +180,7 @@ looks_then o0 o1 o2 first second = record {
   moments = λ two files.
       moments_then o0 o1 o2 (IsNow two o0.links) (first.moments two files)
       (subst (λ (l : Links). MomentsAre o1 o2 (IsNow two l)) first.run.same_links (second.moments two (first.same_files ∙ files)));
+  unchanged = becomes_then ChangesNone ChangesNone ChangesNone o0.calls o1.calls o2.calls change_then first.unchanged second.unchanged;
 }
 
 pub file_moment : (two : Two File) (o0 o : Outside) (file : ℕ) (Q : List ℕ → Type 0) (f : File) → o.files ≡ Some (with_file two file f) → o.links ≡ o0.links

@@ -11,12 +11,13 @@ use Rattle.outside.specs.Links.{Planned, ToldLink, Reply, Answered, with_sent}
 use Rattle.outside.specs.Outside.{Moment, DiskCall, LinkCall, QuietCall}
 use Rattle.outside.specs.Host.{SendsPart}
 use Rattle.outside.specs.Calls.{NoCall}
-use Rattle.outside.proofs.CallSteps.{go_on_none}
+use Rattle.outside.specs.Changes.{of_disk}
+use Rattle.outside.proofs.CallCounts.{no_call_same}
 use Rattle.outside.specs.MemDisk.{Change, dialled, sent, answered, hosted, MemDiskValue, MakesChange, KeptFile, kept_after, both_kept, changed, files_of, links_after, link_changed, answers_after, answers_changed, with_call, bytes_each, calls_of}
 use Rattle.outside.specs.MemMoments.{WasAt, files_at}
 use Rattle.outside.specs.MemLaws.{was_now}
 use Rattle.outside.proofs.MemSound.{kept_after-push, links_after-push}
-use Rattle.outside.specs.MemHost.{MemHostValue, Readings, links_of, AreLinksWired, OnDisk, MakesDial, MakesSend, MakesAnswer, RepliesOnLink}
+use Rattle.outside.specs.MemHost.{MemHostValue, Readings, links_of, AreLinksWired, OnDisk, MakesDial, MakesNonce, MakesSend, MakesAnswer, RepliesOnLink}
 use Rattle.outside.specs.LinksTold.{sent_by, links_told}
 use Rattle.outside.specs.MemLaws.{each_told, each_heard}
 use Rattle.outside.specs.HostTold.{host_told}
@@ -191,20 +192,20 @@ pub record AfterCall (more : Option Change) (old new : MemDiskValue) : Type 0 wh
   pub faults : new.faults ≡ old.faults
   pub no_call : NoCall (calls_of old) (calls_of new)
 
-pub after_one : (c : Change) (old new : MemDiskValue) → new ≡ with_call c old → AfterCall (Some c) old new
-after_one c old new e =
+pub after_one : (c : Change) (old new : MemDiskValue) → of_disk (c ∷ []) ≡ [] → new ≡ with_call c old → AfterCall (Some c) old new
+after_one c old new other e =
     subst (λ (d : MemDiskValue). AfterCall (Some c) old d) (sym e)
     (record {
       start = refl;
       calls = refl;
       faults = refl;
-      no_call = record { goes_on = record { same_start = refl; same_failing = refl; same_stop = refl; more = c ∷ []; grown = refl; later = omega arith }; made = refl };
+      no_call = record { goes_on = record { same_start = refl; same_failing = refl; same_stop = refl; more = c ∷ []; grown = refl; later = omega arith }; made = refl; unchanged = record { more = c ∷ []; grown = refl; none = other } };
     })
 
 pub after_none : (old new : MemDiskValue) → new ≡ old → AfterCall None old new
 after_none old new e =
     subst (λ (d : MemDiskValue). AfterCall None old d) (sym e)
-    (record { start = refl; calls = sym (append-nil old.calls); faults = refl; no_call = record { goes_on = go_on_none (calls_of old); made = refl } })
+    (record { start = refl; calls = sym (append-nil old.calls); faults = refl; no_call = no_call_same (calls_of old) })
 
 same_two : (more : Option Change) (old new : MemDiskValue) → LeavesFiles more → AfterCall more old new → files_at new.start new.calls ≡ files_at old.start old.calls
 same_two more old new leaves after =
@@ -219,6 +220,14 @@ quiet_call more old new leaves after =
       calls = after.no_call;
       time = record { later = pass.later; nothing_else = λ t m _ w. pass.nothing_else t m w; keeps = λ t m _ w. pass.keeps t m w };
     }
+
+-- a call that asks nothing of the disk
+pub calm_call : (old new : MemHostValue) → new.disk ≡ old.disk → QuietCall (host_told old) (host_told new)
+calm_call old new same = quiet_call None old new tt (after_none old.disk new.disk same)
+
+pub nonce_call : (link : ℕ) (result : Result (List ℕ) Failed) (old new : MemHostValue) → MakesNonce link result old new → QuietCall (host_told old) (host_told new)
+nonce_call link (Ok _) old new makes = calm_call old new (ap (λ (h : MemHostValue). h.disk) makes.rest)
+nonce_call link (Err _) old new makes = calm_call old new (ap (λ (h : MemHostValue). h.disk) makes.rest)
 
 -- a moment of a send is one of before it, or one with what it sent
 send_moment : (old new : MemHostValue) (link n : ℕ) (bytes : List ℕ) → AfterCall (Some (sent link (take n bytes))) old.disk new.disk → (m : Moment)
@@ -270,15 +279,15 @@ pub sends_call : (link : ℕ) (bytes : List ℕ) (result : Result (Unit {0}) Fai
     → LinkCall (SendsPart (host_told old) link bytes) (host_told old) (host_told new)
 sends_call link bytes (Ok _) old new makes =
     let whole : bytes ≡ take (length bytes) bytes = sym (take_all (length bytes) bytes (omega arith)) in
-    send_call old new link (length bytes) bytes (after_one (sent link (take (length bytes) bytes)) old.disk new.disk (makes.outcome.disk ∙ ap (λ b. with_call (sent link b) old.disk) whole))
+    send_call old new link (length bytes) bytes (after_one (sent link (take (length bytes) bytes)) old.disk new.disk refl (makes.outcome.disk ∙ ap (λ b. with_call (sent link b) old.disk) whole))
 sends_call link bytes (Err _) old new makes =
     elim makes.outcome.cause [
-      | inl due ↦ send_call old new link (length bytes / 2) bytes (after_one (sent link (take (length bytes / 2) bytes)) old.disk new.disk due.disk)
+      | inl due ↦ send_call old new link (length bytes / 2) bytes (after_one (sent link (take (length bytes / 2) bytes)) old.disk new.disk refl due.disk)
       | inr none ↦ unsent_call old new link bytes none.disk
     ]
 
 pub dials_call : (spec : List ℕ) (result : Result ℕ Failed) (old new : MemHostValue) → MakesDial spec result old new → QuietCall (host_told old) (host_told new)
-dials_call spec (Ok _) old new makes = quiet_call (Some (dialled spec)) old new (λ _. refl) (after_one (dialled spec) old.disk new.disk makes.outcome.disk)
+dials_call spec (Ok _) old new makes = quiet_call (Some (dialled spec)) old new (λ _. refl) (after_one (dialled spec) old.disk new.disk refl makes.outcome.disk)
 dials_call spec (Err _) old new makes =
     elim makes.outcome.cause [
       | inl due ↦ quiet_call None old new tt (after_none old.disk new.disk due.disk)
@@ -286,7 +295,7 @@ dials_call spec (Err _) old new makes =
     ]
 
 replies_call : (link room : ℕ) (reply : Reply) (old new : MemHostValue) → RepliesOnLink link room reply old new → QuietCall (host_told old) (host_told new)
-replies_call link room reply old new r = quiet_call (Some (answered link _)) old new (λ _. refl) (after_one (answered link _) old.disk new.disk r.disk)
+replies_call link room reply old new r = quiet_call (Some (answered link _)) old new (λ _. refl) (after_one (answered link _) old.disk new.disk refl r.disk)
 
 pub answers_call : (link : ℕ) (answer : Heard) (buf : List ℕ) (old new : MemHostValue) → MakesAnswer link answer buf old new → QuietCall (host_told old) (host_told new)
 answers_call link (heard.Got n) buf old new makes = replies_call link _ _ old new makes.outcome

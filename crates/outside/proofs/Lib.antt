@@ -10,6 +10,7 @@ pub mod HostCalls
 pub mod HostLinks
 pub mod ClockSteps
 pub mod CallCounts
+pub mod MadeSteps
 pub mod RunLaws
 pub mod CallSteps
 pub mod Calm

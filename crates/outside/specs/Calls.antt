@@ -1,8 +1,8 @@
 -- What a disk tells of the calls made of it, and how they go on.
-use Rattle.std.specs.Prelude.{◌≡◌, ℕ, zero, suc, ◌≤◌, List, ◌++◌, Option}
+use Rattle.std.specs.Prelude.{◌≡◌, ℕ, zero, suc, ◌≤◌, List, [], ◌++◌, Option}
 use Rattle.outside.specs.Faults.{one_more}
 use Rattle.outside.specs.Files.{Two}
-use Rattle.outside.specs.Changes.{Change}
+use Rattle.outside.specs.Changes.{Change, of_disk}
 
 -- The two files that a disk began with, and what changed it and the host over it since; the numbers of its calls that
 -- are to fail, and that from which on all fail and leave no trace; and how many calls of a disk were made, a count that
@@ -23,6 +23,12 @@ pub record CallsGoOn (old new : Calls) : Type 0 where
   pub grown : new.changes ≡ old.changes ++ more
   pub later : old.made ≤ new.made
 
+-- nothing of the disk changed, whatever was done on the links
+pub record ChangesNone (old new : Calls) : Type 0 where
+  pub more : List Change
+  pub grown : new.changes ≡ old.changes ++ more
+  pub none : of_disk more ≡ []
+
 -- one call of the disk more; and none
 pub record OneCall (old new : Calls) : Type 0 where
   pub goes_on : CallsGoOn old new
@@ -31,6 +37,7 @@ pub record OneCall (old new : Calls) : Type 0 where
 pub record NoCall (old new : Calls) : Type 0 where
   pub goes_on : CallsGoOn old new
   pub made : new.made ≡ old.made
+  pub unchanged : ChangesNone old new
 
 -- a count of calls after so many more
 abbrev pub more_calls : ℕ → ℕ → ℕ

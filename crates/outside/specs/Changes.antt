@@ -1,5 +1,6 @@
 -- The calls that changed something of a disk or of the host over it.
-use Rattle.std.specs.Prelude.{ℕ, List}
+use Rattle.std.specs.Prelude.{ℕ, List, [], ◌∷◌}
+use Rattle.std.specs.List.{flat_map}
 use Rattle.outside.specs.Links.{Answered}
 
 -- a call that changed something: a write or a cut of a file, one that failed, a sync, a dial, bytes sent on a link, an
@@ -14,3 +15,15 @@ pub data Change : Type 0 where
   sent : ℕ → List ℕ → Change
   answered : ℕ → Answered → Change
   hosted : Change
+
+-- the changes of a disk among these, without those of the host over it
+abbrev pub on_disk : Change → List Change
+on_disk (wrote file at bytes) = wrote file at bytes ∷ []
+on_disk (wrote_not file at bytes) = wrote_not file at bytes ∷ []
+on_disk (cut file len) = cut file len ∷ []
+on_disk (cut_not file len) = cut_not file len ∷ []
+on_disk (synced file) = synced file ∷ []
+on_disk _ = []
+
+abbrev pub of_disk : List Change → List Change
+of_disk changes = flat_map on_disk changes

@@ -9,6 +9,7 @@ pub mod Changes
 pub mod Calls
 pub mod Disk
 pub mod Outside
+pub mod Made
 pub mod Host
 pub mod Silent
 pub mod MemDisk

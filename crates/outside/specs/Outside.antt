@@ -1,6 +1,6 @@
 -- What an object tells of the outside: files, links, time, and what a crash at each moment would leave.
 use Rattle.std.specs.Prelude.{◌≡◌, ◌⊎◌, ℕ, ◌+◌, ◌≤◌, List, length, Option, Some, is_some, Result, OnOk}
-use Rattle.outside.specs.Calls.{Calls, CallsGoOn, OneCall, NoCall, more_calls}
+use Rattle.outside.specs.Calls.{Calls, CallsGoOn, ChangesNone, OneCall, NoCall, more_calls}
 use Rattle.outside.specs.Disk.{RelatesTold}
 use Rattle.outside.specs.Files.{Two, File, IsImage, read_files}
 use Rattle.outside.specs.Links.{Links, HeardOn, ToldLink, sent_of}
@@ -82,6 +82,7 @@ pub record OnlyReads (old new : Outside) : Type 0 where
   pub same_files : new.files ≡ old.files
   pub run : DiskRun old new
   pub moments : AnyImage old new
+  pub unchanged : RelatesTold ChangesNone old.calls new.calls
 
 -- ---- how many calls of the disk a run makes, where they are told: just so many, or no more
 

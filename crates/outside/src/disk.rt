@@ -1,8 +1,10 @@
 //! Two files as a disk keeps them.
-ghost use Rattle.std.specs.Prelude.{◌≡◌, ◌<◌, ◌≤◌, length, IfOk};
+ghost use Rattle.std.specs.Prelude.{◌≡◌, ◌<◌, ◌≤◌, [], ◌∷◌, None, Some, length, IfOk};
 ghost use Rattle.std.specs.Option.{ForSome};
 ghost use Rattle.outside.specs.Faults.{HasCause};
+ghost use Rattle.outside.specs.Changes.{wrote, cut, synced};
 ghost use Rattle.outside.specs.Files.{file_of};
+ghost use Rattle.outside.specs.Made.{DoesCalls};
 ghost use Rattle.outside.specs.Outside.{Outside, DiskCall};
 ghost use Rattle.outside.specs.Disk.{RelatesTold, ReadsBytes, WritesFile, CutsFile, SyncsFile};
 
@@ -28,6 +30,7 @@ pub trait Disk {
         requires { file < 2 }
         ensures call { DiskCall (tells self.old) (tells self.new) }
         ensures cause { HasCause (tells self.old).disk_faults (tells self.new).disk_faults result }
+        ensures does { DoesCalls (None ∷ []) result (tells self.old) (tells self.new) }
         ensures same { (tells self.new).files ≡ (tells self.old).files }
         ensures length { IfOk result
             (λ n. ForSome (tells self.old).files (λ two. n ≡ length (file_of two file).now)) };
@@ -38,6 +41,7 @@ pub trait Disk {
         requires { file < 2 }
         ensures call { DiskCall (tells self.old) (tells self.new) }
         ensures cause { HasCause (tells self.old).disk_faults (tells self.new).disk_faults result }
+        ensures does { DoesCalls (None ∷ []) result (tells self.old) (tells self.new) }
         ensures same { (tells self.new).files ≡ (tells self.old).files }
         ensures bound { IfOk result (λ n. n ≤ length buf.new) }
         ensures bytes { IfOk result
@@ -51,6 +55,7 @@ pub trait Disk {
             (λ two. at ≤ length (file_of two file).now) }
         ensures call { DiskCall (tells self.old) (tells self.new) }
         ensures cause { HasCause (tells self.old).disk_faults (tells self.new).disk_faults result }
+        ensures does { DoesCalls (Some (wrote file at bytes.now) ∷ []) result (tells self.old) (tells self.new) }
         ensures written { RelatesTold (WritesFile file at bytes.now result) (tells self.old).files
             (tells self.new).files };
 
@@ -61,6 +66,7 @@ pub trait Disk {
             (λ two. len ≤ length (file_of two file).now) }
         ensures call { DiskCall (tells self.old) (tells self.new) }
         ensures cause { HasCause (tells self.old).disk_faults (tells self.new).disk_faults result }
+        ensures does { DoesCalls (Some (cut file len) ∷ []) result (tells self.old) (tells self.new) }
         ensures cut { RelatesTold (CutsFile file len result) (tells self.old).files
             (tells self.new).files };
 
@@ -69,6 +75,7 @@ pub trait Disk {
         requires { file < 2 }
         ensures call { DiskCall (tells self.old) (tells self.new) }
         ensures cause { HasCause (tells self.old).disk_faults (tells self.new).disk_faults result }
+        ensures does { DoesCalls (Some (synced file) ∷ []) result (tells self.old) (tells self.new) }
         ensures synced { RelatesTold (SyncsFile file result) (tells self.old).files
             (tells self.new).files };
 }

@@ -6,6 +6,7 @@ ghost use Rattle.std.specs.Option.{ForSome};
 ghost use Rattle.outside.specs.Faults.{HasCause, one_more};
 ghost use Rattle.outside.specs.Files.{file_of, with_file, IsImage};
 ghost use Rattle.outside.specs.Outside.{DiskCall};
+ghost use Rattle.outside.specs.Made.{DoesCalls};
 ghost use Rattle.outside.specs.Disk.{RelatesTold, ReadsBytes, WritesFile, CutsFile, SyncsFile, overwritten};
 ghost use Rattle.outside.specs.MemDisk.{two_of, fresh_disk, disk_files, files_of, bytes_of, wrote};
 ghost use Rattle.outside.specs.MemDisk.{wrote_not, cut, cut_not, synced, dialled};
@@ -472,6 +473,7 @@ impl Disk for MemDisk {
         requires { file < 2 }
         ensures call { DiskCall (disk_told self.old) (disk_told self.new) }
         ensures cause { HasCause self.old.faults self.new.faults result }
+        ensures does { DoesCalls (None ∷ []) result (disk_told self.old) (disk_told self.new) }
         ensures same { (disk_told self.new).files ≡ (disk_told self.old).files }
         ensures length { IfOk result
             (λ n. ForSome (disk_told self.old).files (λ two. n ≡ length (file_of two file).now)) }
@@ -487,6 +489,7 @@ impl Disk for MemDisk {
         requires { file < 2 }
         ensures call { DiskCall (disk_told self.old) (disk_told self.new) }
         ensures cause { HasCause self.old.faults self.new.faults result }
+        ensures does { DoesCalls (None ∷ []) result (disk_told self.old) (disk_told self.new) }
         ensures same { (disk_told self.new).files ≡ (disk_told self.old).files }
         ensures bound { IfOk result (λ n. n ≤ length buf.new) }
         ensures bytes { IfOk result
@@ -506,6 +509,7 @@ impl Disk for MemDisk {
             (λ two. at ≤ length (file_of two file).now) }
         ensures call { DiskCall (disk_told self.old) (disk_told self.new) }
         ensures cause { HasCause self.old.faults self.new.faults result }
+        ensures does { DoesCalls (Some (wrote file at bytes.now) ∷ []) result (disk_told self.old) (disk_told self.new) }
         ensures written { RelatesTold (WritesFile file at bytes.now result) (disk_told self.old).files
             (disk_told self.new).files }
 
@@ -522,6 +526,7 @@ impl Disk for MemDisk {
             (λ two. len ≤ length (file_of two file).now) }
         ensures call { DiskCall (disk_told self.old) (disk_told self.new) }
         ensures cause { HasCause self.old.faults self.new.faults result }
+        ensures does { DoesCalls (Some (cut file len) ∷ []) result (disk_told self.old) (disk_told self.new) }
         ensures cut { RelatesTold (CutsFile file len result) (disk_told self.old).files
             (disk_told self.new).files }
 
@@ -536,6 +541,7 @@ impl Disk for MemDisk {
         requires { file < 2 }
         ensures call { DiskCall (disk_told self.old) (disk_told self.new) }
         ensures cause { HasCause self.old.faults self.new.faults result }
+        ensures does { DoesCalls (Some (synced file) ∷ []) result (disk_told self.old) (disk_told self.new) }
         ensures synced { RelatesTold (SyncsFile file result) (disk_told self.old).files
             (disk_told self.new).files }
 

@@ -7,6 +7,7 @@ ghost use Rattle.outside.specs.Faults.{HasCause, one_more};
 ghost use Rattle.outside.specs.Files.{file_of};
 ghost use Rattle.outside.specs.Links.{ToldLink, sent_of};
 ghost use Rattle.outside.specs.Outside.{DiskCall, LinkCall, QuietCall};
+ghost use Rattle.outside.specs.Made.{DoesCalls};
 ghost use Rattle.outside.specs.Disk.{RelatesTold, ReadsBytes, WritesFile, CutsFile, SyncsFile};
 ghost use Rattle.outside.specs.Host.{DialsLink, AsksNonce, HearsAnswer, IsAnswerCaused, SendsOnLink, SendsPart};
 ghost use Rattle.outside.specs.Host.{ReadsClock};
@@ -459,6 +460,7 @@ impl Disk for MemHost {
         requires { file < 2 }
         ensures call { DiskCall (host_told self.old) (host_told self.new) }
         ensures cause { HasCause self.old.disk.faults self.new.disk.faults result }
+        ensures does { DoesCalls (None ∷ []) result (host_told self.old) (host_told self.new) }
         ensures same { (host_told self.new).files ≡ (host_told self.old).files }
         ensures length { IfOk result
             (λ n. ForSome (host_told self.old).files (λ two. n ≡ length (file_of two file).now)) }
@@ -474,6 +476,7 @@ impl Disk for MemHost {
         requires { file < 2 }
         ensures call { DiskCall (host_told self.old) (host_told self.new) }
         ensures cause { HasCause self.old.disk.faults self.new.disk.faults result }
+        ensures does { DoesCalls (None ∷ []) result (host_told self.old) (host_told self.new) }
         ensures same { (host_told self.new).files ≡ (host_told self.old).files }
         ensures bound { IfOk result (λ n. n ≤ length buf.new) }
         ensures bytes { IfOk result
@@ -493,6 +496,7 @@ impl Disk for MemHost {
             (λ two. at ≤ length (file_of two file).now) }
         ensures call { DiskCall (host_told self.old) (host_told self.new) }
         ensures cause { HasCause self.old.disk.faults self.new.disk.faults result }
+        ensures does { DoesCalls (Some (wrote file at bytes.now) ∷ []) result (host_told self.old) (host_told self.new) }
         ensures written { RelatesTold (WritesFile file at bytes.now result) (host_told self.old).files
             (host_told self.new).files }
 
@@ -509,6 +513,7 @@ impl Disk for MemHost {
             (λ two. len ≤ length (file_of two file).now) }
         ensures call { DiskCall (host_told self.old) (host_told self.new) }
         ensures cause { HasCause self.old.disk.faults self.new.disk.faults result }
+        ensures does { DoesCalls (Some (cut file len) ∷ []) result (host_told self.old) (host_told self.new) }
         ensures cut { RelatesTold (CutsFile file len result) (host_told self.old).files
             (host_told self.new).files }
 
@@ -523,6 +528,7 @@ impl Disk for MemHost {
         requires { file < 2 }
         ensures call { DiskCall (host_told self.old) (host_told self.new) }
         ensures cause { HasCause self.old.disk.faults self.new.disk.faults result }
+        ensures does { DoesCalls (Some (synced file) ∷ []) result (host_told self.old) (host_told self.new) }
         ensures synced { RelatesTold (SyncsFile file result) (host_told self.old).files
             (host_told self.new).files }
 

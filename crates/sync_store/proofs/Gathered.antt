@@ -19,6 +19,7 @@ use Rattle.entry_codec.specs.Payloads.{payloads}
 use Rattle.sync_store.specs.declared.fault.StoreFault.{StoreFault}
 use Rattle.sync_store.specs.declared.fault.StoreFault.TheVariants as fault
 use Rattle.sync_store.specs.Store.{IsStore, NoneWaits, StoreValue, format_meant, written_in}
+use Rattle.sync_store.specs.Appending.{AppendsFor}
 use Rattle.sync_store.specs.Commits.{KeepsStore}
 use Rattle.sync_store.specs.Fitting.{FitsFiles, FitsSome, ImagesStand}
 use Rattle.sync_store.specs.Gathering.{GathersSteps, IsAdded, IsUnderway, KeepsJournal}
@@ -91,9 +92,9 @@ none_or_all j more whole (inr all) =
 pub group_added : (clients : Meaning) (before s new : StoreValue) (more : List (List Entry))
     (o o' : Outside) → HasGathered clients before s more → KeepsJournal s new → DiskRun o o'
     → (new.closed ≡ false → MakesJust (flush_calls s.waiting) o o')
-    → MakesAtMost (flush_calls s.waiting) o o'
+    → MakesAtMost (flush_calls s.waiting) o o' → AppendsFor before new o o'
     → AddsAll clients before new o o' more → IsAdded clients before new o o' more
-group_added clients before s new more o o' g same run just most adds =
+group_added clients before s new more o o' g same run just most appends adds =
     let some : 1 ≤ length s.waiting =
     omega (arith, joined_len (payloads (written_in before) before.state.facts more) s.waiting
     g.joined) in
@@ -120,6 +121,7 @@ group_added clients before s new more o o' g same run just most adds =
         calls = record {
           just = λ still. subst (λ n. MakesJust n o o') calls (just still);
           most = subst (λ n. MakesAtMost n o o') calls most;
+          appends = appends;
         };
       };
       counted = counted;
@@ -317,11 +319,11 @@ pub flush_added : (clients : Meaning) (before s new : StoreValue) (more : List (
     → OnOk result (new ≡ record s { waiting = 0 ∷ [] })
     → IfErr result (λ e. (e ≡ fault.DiskFault) × (new ≡ record s { closed = true }))
     → DiskRun o o' → MakesCalls (flush_calls s.waiting) result o o'
-    → HasGathered clients before s more → AddsAll clients before new o o' more
-    → IsAdded clients before new o o' more
-flush_added clients before s new more result o o' ok err run calls g adds =
+    → HasGathered clients before s more → AppendsFor before new o o'
+    → AddsAll clients before new o o' more → IsAdded clients before new o o' more
+flush_added clients before s new more result o o' ok err run calls g appends adds =
     group_added clients before s new more o o' g (keeps_flushed s new result ok err) run
-    (just_by new (flush_calls s.waiting) result s o o' err calls) calls.most adds
+    (just_by new (flush_calls s.waiting) result s o o' err calls) calls.most appends adds
 
 full_by : (n m : ℕ) → n ≡ m + 1 → nat_le (n + (MAX_FRAME + 5)) (MAX_GROUP + 1) ≡ false
     → nat_le (m + (MAX_FRAME + 5)) MAX_GROUP ≡ false

@@ -7,6 +7,7 @@ mod OldKinds
 mod Framing
 mod FitSteps
 mod GroupSteps
+mod GroupAppends
 mod GroupCounts
 mod Gathered
 mod SettleLoop

@@ -1,9 +1,12 @@
 -- How many calls of the disk a load makes.
 use Rattle.std.proofs.Common.{◌≡◌, ℕ, ◌+◌, ◌-◌, ◌*◌, ◌≤◌, Bool, true, false, List, length, refl}
-use Rattle.std.proofs.Common.{sym, ap, subst, ◌∙◌, arith, length-append}
-use Rattle.std.specs.Prelude.{Option, Some, Result, Ok, Err}
+use Rattle.std.proofs.Common.{sym, ap, subst, inl, inr, ◌∙◌, arith, length-append}
+use Rattle.std.specs.Prelude.{Option, None, Some, Result, Ok, Err}
+use Rattle.outside.specs.Calls.{Calls, CallsGoOn, ChangesNone}
+use Rattle.outside.specs.Disk.{RelatesTold}
+use Rattle.outside.specs.Made.{BreaksIn, DoesAll, MadeAll}
 use Rattle.outside.specs.Files.{Two, File, file_of, read_files}
-use Rattle.outside.specs.Outside.{MakesAtMost, MakesJust, Outside}
+use Rattle.outside.specs.Outside.{MakesAtMost, MakesJust, OnlyReads, Outside}
 use Rattle.outside.proofs.CallCounts.{just_then, most_more, most_then, within}
 use Rattle.frame_journal.specs.Journal.{JournalValue}
 use Rattle.frame_journal.specs.Next.{FrameCalls, MovesReader, NextFrame}
@@ -17,7 +20,9 @@ use Rattle.sync_store.specs.Cited.{StoreLaws}
 use Rattle.sync_store.specs.Store.{format_meant}
 use Rattle.sync_store.specs.Loading.{HasReadSome, IsAtJournalEnd, LoadsWithin, PlaysFrame}
 use Rattle.sync_store.specs.Loading.{ReadsMore, ReadsWithin, TurnCalls}
+use Rattle.sync_store.specs.Asking.{LoadDoes, LooksBehind, barrier_calls}
 use Rattle.sync_store.specs.declared.fault.LoadFault.{LoadFault}
+use Rattle.sync_store.specs.declared.fault.LoadFault.TheVariants as load
 use Rattle.sync_store.proofs.LoadSteps.{more_read}
 
 -- ---- a turn
@@ -184,3 +189,34 @@ loads_whole value u batches o0 o1 o2 o3 first second third =
       just = made;
       most = within (2 * batches + 6) (2 * batches + 7) o0 o3 (omega arith) made;
     }
+
+-- ---- which calls they are
+
+-- calls that only look, behind those of the barrier
+looks_behind : (a b c : Option Calls) → RelatesTold (MadeAll barrier_calls) a b
+    → RelatesTold ChangesNone b c → RelatesTold CallsGoOn b c → RelatesTold LooksBehind a c
+looks_behind None None None first none on = tt
+looks_behind None None (Some c) first none on = absurd none
+looks_behind None (Some b) c first none on = absurd first
+looks_behind (Some a) None c first none on = absurd first
+looks_behind (Some a) (Some b) None first none on = absurd none
+looks_behind (Some a) (Some b) (Some c) first none on =
+    record { mid = b; barrier = first; looks = none; later = on.later }
+
+pub load_looks : {T : Type 0} (result : Result T LoadFault) (o0 o1 o2 : Outside)
+    → DoesAll barrier_calls o0 o1 → OnlyReads o1 o2 → LoadDoes result o0 o2
+load_looks (Ok s) o0 o1 o2 does looks =
+    looks_behind o0.calls o1.calls o2.calls does.done looks.unchanged looks.run.calls
+load_looks (Err load.NoStore) o0 o1 o2 does looks =
+    looks_behind o0.calls o1.calls o2.calls does.done looks.unchanged looks.run.calls
+load_looks (Err (load.Damaged place)) o0 o1 o2 does looks =
+    looks_behind o0.calls o1.calls o2.calls does.done looks.unchanged looks.run.calls
+load_looks (Err load.DiskFault) o0 o1 o2 does looks =
+    inr (looks_behind o0.calls o1.calls o2.calls does.done looks.unchanged looks.run.calls)
+load_looks (Err load.Memory) o0 o1 o2 does looks =
+    looks_behind o0.calls o1.calls o2.calls does.done looks.unchanged looks.run.calls
+
+pub load_broke : {T : Type 0} (result : Result T LoadFault) (o o' : Outside)
+    → result ≡ Err load.DiskFault → BreaksIn barrier_calls o o' → LoadDoes result o o'
+load_broke {T = T} result o o' is breaks =
+    subst (λ (r : Result T LoadFault). LoadDoes r o o') (sym is) (inl breaks)

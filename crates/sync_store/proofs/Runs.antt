@@ -1,5 +1,5 @@
 -- Runs of a store's calls, one behind the other: for whoever calls a store more than once.
-use Rattle.std.proofs.Common.{◌≡◌, ℕ, ◌+◌, ◌≤◌, true, false, List, [], ◌∷◌, ◌++◌, Option, Some, Result, Ok, Err}
+use Rattle.std.proofs.Common.{◌≡◌, ℕ, ◌+◌, ◌*◌, ◌≤◌, length, true, false, List, [], ◌∷◌, ◌++◌, Option, Some, Result, Ok, Err}
 use Rattle.std.proofs.Common.{refl, sym, ap, ◌∙◌, subst, append-nil, length-append, arith}
 use Rattle.std.specs.Prelude.{IsErrOf}
 use Rattle.outside.specs.Faults.{CountRose}
@@ -7,6 +7,7 @@ use Rattle.outside.specs.Files.{Two, File}
 use Rattle.outside.specs.Links.{sent_of}
 use Rattle.outside.specs.Outside.{Outside, DiskRun, MakesAtMost, MakesCalls, MakesJust}
 use Rattle.frame_journal.specs.Group.{IsGroup}
+use Rattle.outside.proofs.CallCounts.{most_more}
 use Rattle.outside.proofs.CallSteps.{moments_none, run_none, run_then}
 use Rattle.sync_rules.specs.declared.entries.Entry.{Entry}
 use Rattle.sync_rules.specs.Clients.{Meaning}
@@ -22,6 +23,7 @@ use Rattle.sync_store.specs.Store.{written_in}
 use Rattle.sync_store.specs.Commits.{AnswersCommit, KeepsStore, UnaskedDisk, needed}
 use Rattle.sync_store.specs.Fitting.{FitsFiles, ImagesStand}
 use Rattle.sync_store.specs.Ready.{IsReady}
+use Rattle.sync_store.specs.Appending.{AppendsFor}
 use Rattle.sync_store.specs.Gathering.{SettlesOut}
 use Rattle.sync_store.specs.Moments.{RunsCommit, IsBetween, JournalMoment, groups_for}
 use Rattle.sync_store.specs.Runs.{AddsBatch, ExtendsSo, HasExtended, LeadsBy, RunsBy, committed_by}
@@ -97,7 +99,7 @@ runs_nothing images clients s new o store stays = (record {
   };
   groups = 0;
   few = omega arith;
-  calls = calls_none new o;
+  calls = calls_none s new o stays.end stays.closed;
 }, refl)
 
 pub runs_none : ImagesStand → (clients : Meaning) (s new : StoreValue) (o : Outside) → IsStore s
@@ -109,10 +111,10 @@ runs_none images clients s new o store stays = (runs_nothing images clients s ne
 -- a batch was committed
 runs_committed : (clients : Meaning) (s new : StoreValue) (batch : List Entry) (u : Unit {0})
     (o o' : Outside) → Allowed clients s.state.facts batch → AnswersCommit s new batch (Ok u)
-    → DiskRun o o' → MakesJust 4 o o'
+    → DiskRun o o' → MakesJust 4 o o' → AppendsFor s new o o'
     → ((two : Two File) → o.files ≡ Some two → (j : List (List Entry)) → FitsFiles clients s j two
     → RunsCommit clients batch (Ok u) new o o' j) → RunsBy clients s new o o' (batch ∷ [])
-runs_committed clients s new batch u o o' allowed commits run made adds = record {
+runs_committed clients s new batch u o o' allowed commits run made appends adds = record {
   goes_on = (allowed, tt);
   facts = λ still. commits.2.facts;
   file = commits.2.file;
@@ -123,17 +125,17 @@ runs_committed clients s new batch u o o' allowed commits run made adds = record
   leads = λ two told j fits. leads_one clients j batch new u o o' (adds two told j fits);
   groups = 1;
   few = omega arith;
-  calls = calls_one new o o' made;
+  calls = calls_one s new o o' made appends;
 }
 
 -- the disk failed
 runs_broken : (clients : Meaning) (s new : StoreValue) (batch : List Entry) (o o' : Outside)
     → Allowed clients s.state.facts batch → AnswersCommit s new batch (Err fault.DiskFault)
-    → DiskRun o o' → MakesAtMost 4 o o'
+    → DiskRun o o' → MakesAtMost 4 o o' → AppendsFor s new o o'
     → ((two : Two File) → o.files ≡ Some two → (j : List (List Entry)) → FitsFiles clients s j two
     → RunsCommit clients batch (Err fault.DiskFault) new o o' j)
     → RunsBy clients s new o o' (batch ∷ [])
-runs_broken clients s new batch o o' allowed commits run made adds = record {
+runs_broken clients s new batch o o' allowed commits run made appends adds = record {
   goes_on = (allowed, tt);
   facts = λ still. true≢false new.closed commits.2.closed still;
   file = commits.2.file;
@@ -146,7 +148,7 @@ runs_broken clients s new batch o o' allowed commits run made adds = record {
       commits.2.closed;
   groups = 1;
   few = omega arith;
-  calls = calls_closed new o o' commits.2.closed made;
+  calls = calls_closed s new o o' commits.2.closed made appends;
 }
 
 -- A commit, whatever it answered: `tells` says what a disk tells, `d` and `d'` are the disk before
@@ -156,24 +158,24 @@ pub runs_commit : ImagesStand → (clients : Meaning) (s new : StoreValue) (batc
     → IsStore new
     → s.closed ≡ false → Allowed clients s.state.facts batch → AnswersCommit s new batch result
     → UnaskedDisk result d d' → DiskRun (tells d) (tells d')
-    → MakesCalls 4 result (tells d) (tells d')
+    → MakesCalls 4 result (tells d) (tells d') → AppendsFor s new (tells d) (tells d')
     → ((two : Two File) → (tells d).files ≡ Some two → (j : List (List Entry))
     → FitsFiles clients s j two → RunsCommit clients batch result new (tells d) (tells d') j)
     → RunsBy clients s new (tells d) (tells d') (committed_by batch result)
 runs_commit images clients s new batch (Ok u) D tells d d' store opened allowed commits unasked run
-    made adds =
-    runs_committed clients s new batch u (tells d) (tells d') allowed commits run made.just adds
+    made appends adds =
+    runs_committed clients s new batch u (tells d) (tells d') allowed commits run made.just appends adds
 runs_commit images clients s new batch (Err fault.DiskFault) D tells d d' store opened allowed
-    commits unasked run made adds =
-    runs_broken clients s new batch (tells d) (tells d') allowed commits run made.most adds
+    commits unasked run made appends adds =
+    runs_broken clients s new batch (tells d) (tells d') allowed commits run made.most appends adds
 runs_commit images clients s new batch (Err fault.Closed) D tells d d' store opened allowed commits
-    unasked run made adds = true≢false s.closed commits.0 opened
+    unasked run made appends adds = true≢false s.closed commits.0 opened
 runs_commit images clients s new batch (Err fault.Full) D tells d d' store opened allowed commits
-    unasked run made adds =
+    unasked run made appends adds =
     subst (λ (x : D). RunsBy clients s new (tells d) (tells x) []) (sym unasked)
     (runs_none images clients s new (tells d) (store_back s new commits.2 store) commits.2)
 runs_commit images clients s new batch (Err fault.Memory) D tells d d' store opened allowed commits
-    unasked run made adds =
+    unasked run made appends adds =
     subst (λ (x : D). RunsBy clients s new (tells d) (tells x) []) (sym unasked)
     (runs_none images clients s new (tells d) (store_back s new commits.2 store) commits.2)
 
@@ -219,7 +221,8 @@ runs_both clients s0 s1 s2 o0 o1 o2 xs ys still first second =
       leads = leads_then clients s0 s1 s2 o0 o1 o2 xs ys still first.run first.leads second.leads;
       groups = first.groups + second.groups;
       few = omega (arith, first.few, second.few, length-append xs ys);
-      calls = calls_runs s1 s2 o0 o1 o2 first.groups second.groups still first.calls second.calls;
+      calls = calls_runs s0 s1 s2 o0 o1 o2 first.groups second.groups first.file still first.calls
+          second.calls;
     }, refl)
 
 pub runs_then : (clients : Meaning) (s0 s1 s2 : StoreValue) (o0 o1 o2 : Outside)
@@ -322,3 +325,18 @@ rose_later a b c later rose = omega arith
 -- and one that rose before it
 pub rose_still : (a b c : ℕ) → CountRose a b → b ≤ c → CountRose a c
 rose_still a b c rose later = omega arith
+
+-- ---- how many calls of the disk
+
+-- no more than four for each batch
+pub runs_within : (clients : Meaning) (s s' : StoreValue) (o o' : Outside) (more : List (List Entry))
+    → RunsBy clients s s' o o' more → MakesAtMost (4 * length more) o o'
+runs_within clients s s' o o' more runs =
+    most_more (4 * runs.groups) (4 * length more) o o' (omega (arith, runs.few)) runs.calls.most
+
+pub settled_within : (clients : Meaning) (s s' : StoreValue) (result : Result (Unit {0}) StoreFault)
+    (o o' : Outside) (has : HasSettled clients s s' result o o')
+    → MakesAtMost (4 * length has.more) o o'
+settled_within clients s s' result o o' has =
+    most_more (4 * groups_for (written_in s) 0 has.more) (4 * length has.more) o o'
+    (omega (arith, few_groups (written_in s) has.more)) has.comes.calls.most

@@ -16,7 +16,7 @@ use Rattle.entry_codec.proofs.Growing.{settling-append}
 use Rattle.sync_store.specs.declared.fault.StoreFault.{StoreFault}
 use Rattle.sync_store.specs.declared.fault.StoreFault.TheVariants as fault
 use Rattle.sync_store.specs.Groups.{HasGathered}
-use Rattle.sync_store.specs.Moments.{CallsFor}
+use Rattle.sync_store.specs.Appending.{CallsFor}
 use Rattle.sync_store.specs.Store.{IsStore, StoreValue, format_meant, written_in}
 use Rattle.sync_store.specs.Gathering.{GathersSo, GathersSteps, IsAdded, IsOneBatch, IsUnderway}
 use Rattle.sync_store.specs.Gathering.{KeepsJournal, MakesRoom, SettlesOn, SettlesOut, SettlesSoFar, StepsOn}
@@ -284,7 +284,7 @@ settled_out clients s new result o o' out =
         limit = runs.limit;
         end = out.steps.end;
         leads = runs.leads;
-        calls = subst (λ n. CallsFor n new o o') out.added.counted runs.calls;
+        calls = subst (λ n. CallsFor n s new o o') out.added.counted runs.calls;
       };
       filled = out.steps.filled;
       room = room_split (written_in s) (left_of new.state.facts) (steps_in more)

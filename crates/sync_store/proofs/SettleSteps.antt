@@ -5,7 +5,11 @@ use Rattle.std.proofs.Common.{append-nil, append_assoc, length-append}
 use Rattle.std.specs.List.{AllByRecursion}
 use Rattle.outside.specs.Files.{Two, File}
 use Rattle.outside.specs.Links.{Links, sent_of}
+use Rattle.outside.specs.Made.{BreaksIn, DoesAll}
 use Rattle.outside.specs.Outside.{Outside, DiskRun, MakesAtMost, MakesJust}
+use Rattle.frame_journal.specs.Append.{IsFramed}
+use Rattle.frame_journal.specs.Appends.{Appends, BreaksAppends, append_calls}
+use Rattle.frame_journal.proofs.Appending.{appends_none, appends_one, appends_then, breaks_behind, breaks_one, frames_of_one}
 use Rattle.outside.proofs.CallSteps.{moments_map, moments_then, run_none, run_then, told_back}
 use Rattle.outside.proofs.CallSteps.{told_on}
 use Rattle.outside.proofs.CallCounts.{just_most, just_none, just_then, most_none, most_then}
@@ -25,7 +29,8 @@ use Rattle.sync_store.specs.declared.fault.StoreFault.{StoreFault}
 use Rattle.sync_store.specs.declared.fault.StoreFault.TheVariants as fault
 use Rattle.sync_store.specs.Store.{StoreValue, IsStore, format_meant, written_in}
 use Rattle.sync_store.specs.Fitting.{FitsFiles, FitsSome}
-use Rattle.sync_store.specs.Moments.{CallsFor, JournalMoment, LeadsTo, WithAtMost, journal_with}
+use Rattle.sync_store.specs.Appending.{AppendsFor, CallsFor}
+use Rattle.sync_store.specs.Moments.{JournalMoment, LeadsTo, WithAtMost, journal_with}
 use Rattle.sync_store.specs.Moments.{RunsCommit, IsBetween}
 use Rattle.sync_store.specs.Runs.{LeadsBy}
 use Rattle.sync_store.specs.Settling.{settling_len, steps_in}
@@ -82,22 +87,67 @@ between_one j batch whole (inr with_it) =
 -- ---- no batch, and one
 
 -- the calls of no group, of one, and of groups behind others
-pub calls_none : (s : StoreValue) (o : Outside) → CallsFor 0 s o o
-calls_none s o = record { just = λ still. just_none o; most = most_none 0 o }
+-- ---- no batch, and one
 
-pub calls_one : (s : StoreValue) (o o' : Outside) → MakesJust 4 o o' → CallsFor 1 s o o'
-calls_one s o o' just = record { just = λ still. just; most = just_most 4 o o' just }
+-- nothing was asked of the disk
+pub appends_same : (s new : StoreValue) (o : Outside) → new.end ≡ s.end → new.closed ≡ s.closed
+    → AppendsFor s new o o
+appends_same s new o end closed = record {
+  all = λ still. subst (λ (n : ℕ). Appends s.file s.end n o o) (sym end)
+      (appends_none s.file s.end o);
+  broken = λ opened shut. true≢false new.closed shut (closed ∙ opened);
+}
+
+-- a frame was appended, or a call failed in that
+pub appends_framed : (s new : StoreValue) (framed : List ℕ) (o o' : Outside) → IsFramed framed
+    → new.end ≡ s.end + length framed → new.closed ≡ s.closed
+    → DoesAll (append_calls s.file s.end framed) o o' → AppendsFor s new o o'
+appends_framed s new framed o o' is_framed end closed does = record {
+  all = λ still. subst (λ (n : ℕ). Appends s.file s.end n o o') (sym end)
+      (appends_one s.file s.end framed o o' (frames_of_one framed is_framed) does);
+  broken = λ opened shut. true≢false new.closed shut (closed ∙ opened);
+}
+
+pub appends_failed : (s new : StoreValue) (framed : List ℕ) (o o' : Outside) → IsFramed framed
+    → new.closed ≡ true → BreaksIn (append_calls s.file s.end framed) o o' → AppendsFor s new o o'
+appends_failed s new framed o o' is_framed closed breaks = record {
+  all = λ still. true≢false new.closed closed still;
+  broken = λ opened shut.
+      breaks_one s.file s.end framed o o' (frames_of_one framed is_framed) breaks;
+}
+
+appends_both : (s0 s1 s2 : StoreValue) (o0 o1 o2 : Outside) → s1.file ≡ s0.file
+    → s1.closed ≡ false → AppendsFor s0 s1 o0 o1 → AppendsFor s1 s2 o1 o2 → AppendsFor s0 s2 o0 o2
+appends_both s0 s1 s2 o0 o1 o2 file still first second = record {
+  all = λ opened.
+      appends_then s0.file s0.end s1.end s2.end o0 o1 o2 (first.all still)
+      (subst (λ (f : ℕ). Appends f s1.end s2.end o1 o2) file (second.all opened));
+  broken = λ opened shut.
+      breaks_behind s0.file s0.end s1.end o0 o1 o2 (first.all still)
+      (subst (λ (f : ℕ). BreaksAppends f s1.end o1 o2) file (second.broken still shut));
+}
+
+-- the calls of no group, of one, and of groups behind others
+pub calls_none : (s new : StoreValue) (o : Outside) → new.end ≡ s.end → new.closed ≡ s.closed
+    → CallsFor 0 s new o o
+calls_none s new o end closed =
+    record { just = λ still. just_none o; most = most_none 0 o; appends = appends_same s new o end closed }
+
+pub calls_one : (s new : StoreValue) (o o' : Outside) → MakesJust 4 o o' → AppendsFor s new o o'
+    → CallsFor 1 s new o o'
+calls_one s new o o' just appends =
+    record { just = λ still. just; most = just_most 4 o o' just; appends = appends }
 
 -- a call failed
-pub calls_closed : (s : StoreValue) (o o' : Outside) → s.closed ≡ true → MakesAtMost 4 o o'
-    → CallsFor 1 s o o'
-calls_closed s o o' closed most =
-    record { just = λ still. true≢false s.closed closed still; most = most }
+pub calls_closed : (s new : StoreValue) (o o' : Outside) → new.closed ≡ true → MakesAtMost 4 o o'
+    → AppendsFor s new o o' → CallsFor 1 s new o o'
+calls_closed s new o o' closed most appends =
+    record { just = λ still. true≢false new.closed closed still; most = most; appends = appends }
 
-pub calls_runs : (s1 s2 : StoreValue) (o0 o1 o2 : Outside) (m n : ℕ)
-    → s1.closed ≡ false → CallsFor m s1 o0 o1 → CallsFor n s2 o1 o2
-    → CallsFor (m + n) s2 o0 o2
-calls_runs s1 s2 o0 o1 o2 m n still first second =
+pub calls_runs : (s0 s1 s2 : StoreValue) (o0 o1 o2 : Outside) (m n : ℕ) → s1.file ≡ s0.file
+    → s1.closed ≡ false → CallsFor m s0 s1 o0 o1 → CallsFor n s1 s2 o1 o2
+    → CallsFor (m + n) s0 s2 o0 o2
+calls_runs s0 s1 s2 o0 o1 o2 m n file still first second =
     let all : 4 * m + 4 * n ≡ 4 * (m + n) = omega arith in
     record {
       just = λ opened. subst (λ (n : ℕ). MakesJust n o0 o2) all
@@ -105,6 +155,7 @@ calls_runs s1 s2 o0 o1 o2 m n still first second =
       most =
           subst (λ (n : ℕ). MakesAtMost n o0 o2) all
           (most_then (4 * m) (4 * n) o0 o1 o2 first.most second.most);
+      appends = appends_both s0 s1 s2 o0 o1 o2 file still first.appends second.appends;
     }
 
 pub leads_one : (clients : Meaning) (j : List (List Entry)) (batch : List Entry) (new : StoreValue)

@@ -4,6 +4,7 @@ pub mod Inside
 pub mod Fitting
 pub mod Ready
 pub mod Moments
+pub mod Appending
 pub mod Begin
 pub mod Commits
 pub mod Settling
@@ -15,4 +16,5 @@ pub mod Migrations
 pub mod Compactions
 pub mod Refusals
 pub mod Loading
+pub mod Asking
 pub mod Cited

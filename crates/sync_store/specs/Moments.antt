@@ -6,7 +6,7 @@ use Rattle.frame_journal.specs.declared.group.TheConstants.{MAX_GROUP}
 use Rattle.outside.specs.declared.limits.TheConstants.{MAX_FRAME}
 use Rattle.outside.specs.Files.{Two, File}
 use Rattle.outside.specs.Links.{sent_of}
-use Rattle.outside.specs.Outside.{Outside, Moment, MomentsAre, MakesAtMost, MakesJust}
+use Rattle.outside.specs.Outside.{Outside, Moment, MomentsAre}
 use Rattle.sync_rules.specs.declared.entries.Entry.{Entry}
 use Rattle.sync_rules.specs.Clients.{Meaning}
 use Rattle.entry_codec.specs.declared.naming.Format.{Format}
@@ -32,12 +32,6 @@ pub record LeadsTo (clients : Meaning) (P Q : List (List Entry) → Type 0) (s :
   pub moments : MomentsAre old new (JournalMoment clients P (sent_of old.links.told))
   pub ends : s.closed ≡ false → (two : Two File) → new.files ≡ Some two
       → (whole : List (List Entry)) × Q whole × FitsFiles clients s whole two
-
--- How many calls of the disk it takes to add so many groups of batches: four each, and where a call
--- failed, so that the store is closed, no more.
-pub record CallsFor (groups : ℕ) (s : StoreValue) (old new : Outside) : Type 0 where
-  pub just : s.closed ≡ false → MakesJust (4 * groups) old new
-  pub most : MakesAtMost (4 * groups) old new
 
 -- How many groups it takes to add batches in a format behind frames of so many bytes that wait: a
 -- batch joins those that wait where the longest frame finds room behind them, and else these are

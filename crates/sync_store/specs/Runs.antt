@@ -11,7 +11,8 @@ use Rattle.sync_rules.specs.Steps.{IsSettled}
 use Rattle.sync_store.specs.Store.{StoreValue, written_in}
 use Rattle.sync_store.specs.Commits.{KeepsStore, needed}
 use Rattle.sync_store.specs.Fitting.{FitsFiles}
-use Rattle.sync_store.specs.Moments.{CallsFor, IsBetween, LeadsTo, groups_for}
+use Rattle.sync_store.specs.Appending.{CallsFor}
+use Rattle.sync_store.specs.Moments.{IsBetween, LeadsTo, groups_for}
 use Rattle.sync_store.specs.Settling.{AreFilled}
 use Rattle.sync_store.specs.declared.fault.StoreFault.{StoreFault}
 use Rattle.sync_store.specs.declared.fault.StoreFault.TheVariants as fault
@@ -40,7 +41,7 @@ pub record RunsBy (clients : Meaning) (old new : StoreValue) (o o' : Outside)
   pub leads : LeadsBy clients old new o o' more
   pub groups : ℕ
   pub few : groups ≤ length more
-  pub calls : CallsFor groups new o o'
+  pub calls : CallsFor groups old new o o'
 
 -- the batches of a commit, by its answer: where the disk failed the batch may stand in the files
 abbrev pub committed_by : List Entry → Result (Unit {0}) StoreFault → List (List Entry)

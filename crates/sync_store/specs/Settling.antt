@@ -13,7 +13,8 @@ use Rattle.entry_codec.specs.declared.naming.Format.{Format}
 use Rattle.entry_codec.specs.Standing.{room_of, step_bytes, step_len}
 use Rattle.sync_store.specs.Store.{StoreValue, written_in}
 use Rattle.sync_store.specs.Fitting.{FitsFiles}
-use Rattle.sync_store.specs.Moments.{CallsFor, IsBetween, LeadsTo, groups_for}
+use Rattle.sync_store.specs.Appending.{CallsFor}
+use Rattle.sync_store.specs.Moments.{IsBetween, LeadsTo, groups_for}
 use Rattle.sync_store.specs.declared.fault.StoreFault.{StoreFault}
 use Rattle.sync_store.specs.declared.fault.StoreFault.TheVariants as fault
 
@@ -61,7 +62,7 @@ pub record ComesBy (clients : Meaning) (old new : StoreValue) (o o' : Outside)
   pub leads : (two : Two File) → o.files ≡ Some two → (j : List (List Entry))
       → FitsFiles clients old j two
       → LeadsTo clients (IsBetween j more) (λ whole. whole ≡ j ++ more) new o o'
-  pub calls : CallsFor (groups_for (written_in old) 0 more) new o o'
+  pub calls : CallsFor (groups_for (written_in old) 0 more) old new o o'
 
 -- A store that is not closed was settled, as far as the answer says.
 pub record HasSettled (clients : Meaning) (old new : StoreValue)

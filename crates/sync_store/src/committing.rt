@@ -16,6 +16,7 @@ ghost use Rattle.sync_rules.specs.Allows.{allows, is_account_kind, is_settling_k
 ghost use Rattle.sync_rules.specs.Clients.{Meaning};
 ghost use Rattle.sync_rules.specs.Legal.{Allowed};
 ghost use Rattle.session_core.specs.Known.{IsOfAll};
+ghost use Rattle.sync_store.specs.Appending.{AppendsFor};
 ghost use Rattle.sync_store.specs.Commits.{AnswersCommit, GainsBatch, MayAdd, UnaskedDisk, needed};
 ghost use Rattle.sync_store.specs.Fitting.{FitsFiles};
 ghost use Rattle.sync_store.specs.Moments.{RunsCommit};
@@ -65,6 +66,7 @@ impl Store {
             → IsReady (C.meaning clients.now) self.new (D.tells disk.new).files }
         ensures unasked { UnaskedDisk result disk.old disk.new }
         ensures calls { MakesCalls 4 result (D.tells disk.old) (D.tells disk.new) }
+        ensures appends { AppendsFor self.old self.new (D.tells disk.old) (D.tells disk.new) }
         ensures run { DiskRun (D.tells disk.old) (D.tells disk.new) }
         ensures numbers { IsStore self.new }
         ensures fault { IsErrOf result StoreFault.DiskFault
@@ -99,6 +101,7 @@ impl Store {
             → IsReady (C.meaning clients.now) self.new (D.tells disk.new).files }
         ensures unasked { UnaskedDisk result disk.old disk.new }
         ensures calls { MakesCalls 4 result (D.tells disk.old) (D.tells disk.new) }
+        ensures appends { AppendsFor self.old self.new (D.tells disk.old) (D.tells disk.new) }
         ensures run { DiskRun (D.tells disk.old) (D.tells disk.new) }
         ensures numbers { IsStore self.new }
         ensures fault { IsErrOf result StoreFault.DiskFault
@@ -176,6 +179,7 @@ impl Store {
         ensures ready { self.new.closed ≡ false
             → IsReady (C.meaning clients.now) self.new (D.tells disk.new).files }
         ensures calls { MakesCalls 4 result (D.tells disk.old) (D.tells disk.new) }
+        ensures appends { AppendsFor self.old self.new (D.tells disk.old) (D.tells disk.new) }
         ensures run { DiskRun (D.tells disk.old) (D.tells disk.new) }
         ensures numbers { IsStore self.new }
         ensures fault { HasCause (D.tells disk.old).disk_faults (D.tells disk.new).disk_faults

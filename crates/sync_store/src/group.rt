@@ -12,6 +12,7 @@ ghost use Rattle.sync_rules.specs.declared.entries.Entry.{Entry};
 ghost use Rattle.sync_rules.specs.Allows.{is_account_kind, is_settling_kind};
 ghost use Rattle.sync_rules.specs.Legal.{Allowed};
 ghost use Rattle.session_core.specs.Known.{IsOfAll};
+ghost use Rattle.sync_store.specs.Appending.{AppendsFor};
 ghost use Rattle.sync_store.specs.Commits.{AnswersCommit, GainsBatch, MayAdd};
 ghost use Rattle.sync_store.specs.Groups.{AddsAll, HasGathered, HasGroupRoom, IsGathering};
 ghost use Rattle.sync_store.specs.Ready.{IsReady};
@@ -116,6 +117,9 @@ impl Store {
             → HasGathered (C.meaning clients.now) before self.old more
             → AddsAll (C.meaning clients.now) before self.new (D.tells disk.old)
             (D.tells disk.new) more }
+        ensures appends { (before : StoreValue) → (more : List (List Entry))
+            → HasGathered (C.meaning clients.now) before self.old more
+            → AppendsFor before self.new (D.tells disk.old) (D.tells disk.new) }
         ensures ready { self.new.closed ≡ false
             → IsReady (C.meaning clients.now) self.new (D.tells disk.new).files }
         ensures calls { MakesCalls (flush_calls self.old.waiting) result (D.tells disk.old)

@@ -8,6 +8,7 @@ ghost use Rattle.outside.specs.Outside.{AnyImage, DiskRun, OnlyReads};
 ghost use Rattle.journal_state.specs.Taking.{HasNextNumbers};
 ghost use Rattle.journal_state.specs.Whole.{KnowsJudgements};
 ghost use Rattle.sync_rules.specs.Facts.{nothing};
+ghost use Rattle.sync_store.specs.Asking.{LoadDoes};
 ghost use Rattle.sync_store.specs.Loading.{HasItsRoom, HasReadSome, IsJournalLoaded, LeavesSettled};
 ghost use Rattle.sync_store.specs.Loading.{LoadsIn, PlaysFrame, ReadsWholeJournal, TurnCalls, ReadsMore};
 ghost use Rattle.sync_store.specs.Loading.{ReadsIn, PlayedSoFar, PlaysNextFrame};
@@ -153,6 +154,9 @@ impl Store {
         // So many calls of the disk it makes over files that stand for a journal.
         ensures calls { LoadsIn (C.meaning clients.now) result (D.tells disk.old)
             (D.tells disk.new) }
+
+        // It syncs both files and then only looks, or its disk failed in the former.
+        ensures does { LoadDoes result (D.tells disk.old) (D.tells disk.new) }
 
         // Whatever it answers, the files read as before.
         ensures reads { RelatesTold ReadsSame (D.tells disk.old).files (D.tells disk.new).files }

@@ -7,6 +7,10 @@ use Rattle.frame_journal.proofs.BehindSteps.{behind_fits, other_after}
 use Rattle.frame_journal.proofs.AppendSteps.{gated_behind, gated_after, opens_both, passed_map}
 use Rattle.frame_journal.proofs.ClearSteps.{on_ok_map, becomes_new, becomes_then, passed_then}
 use Rattle.frame_journal.proofs.Closed.{leaves_then}
+use Rattle.frame_journal.specs.Appends.{write_calls}
+use Rattle.frame_journal.proofs.Appending.{breaks_as}
+use Rattle.outside.proofs.MadeSteps.{breaks_wide, does_both}
+use Rattle.std.proofs.Common.{◌∷◌, []}
 use Rattle.frame_journal.proofs.gates.open_behind.Goals as goal
 
 pub open_gate-requires-clause-fits : goal.open_gate-requires-clause-fits
@@ -54,3 +58,13 @@ returns-in_err-write_behind-clause-leaves g c some = c.write_behind.ensures.leav
 pub returns-clause-leaves : goal.returns-clause-leaves
 returns-clause-leaves g c some =
     leaves_then c.args.file (g.D.Disk.tells c.args.disk.now).files (g.D.Disk.tells c.write_behind.new.disk).files (g.D.Disk.tells c.open_gate.new.disk).files (c.write_behind.ensures.leaves (omega (arith, some))) (c.open_gate.ensures.leaves some)
+
+pub returns-in_err-write_behind-clause-does : goal.returns-in_err-write_behind-clause-does
+returns-in_err-write_behind-clause-does g c =
+    breaks_as _ _ c.from_residual.result _ _ c.from_residual.ensures.1
+    (breaks_wide (write_calls c.args.file c.args.end c.args.bytes.now) (write_calls c.args.file (c.args.end - 1) (1 ∷ [])) _ _ c.in_err-write_behind.ensures.does)
+
+pub returns-clause-does : goal.returns-clause-does
+returns-clause-does g c =
+    does_both (write_calls c.args.file c.args.end c.args.bytes.now) (write_calls c.args.file (c.args.end - 1) (1 ∷ [])) c.open_gate.result _ _ _
+    c.in_ok-write_behind.ensures.does c.open_gate.ensures.does

@@ -4,6 +4,10 @@ use Rattle.frame_journal.specs.Gates.{OpensGate}
 use Rattle.frame_journal.proofs.GateSteps.{gate_inside, open_ok, open_err, last_ok, last_err, opens}
 use Rattle.frame_journal.proofs.AppendSteps.{becomes_from}
 use Rattle.frame_journal.proofs.Closed.{leaves_both, leaves_wrote}
+use Rattle.frame_journal.proofs.Appending.{breaks_as}
+use Rattle.outside.proofs.MadeSteps.{breaks_then, breaks_wide}
+use Rattle.outside.specs.Changes.{synced, wrote}
+use Rattle.std.proofs.Common.{Some}
 use Rattle.frame_journal.proofs.gates.open_gate.Goals as goal
 
 pub write_at-requires-clause-place : goal.write_at-requires-clause-place
@@ -61,3 +65,13 @@ returns-in_err-sync-clause-leaves g c some =
 pub returns-clause-leaves : goal.returns-clause-leaves
 returns-clause-leaves g c some =
     leaves_both c.args.file (c.args.end - 1) (1 ∷ []) c.write_at.result c.sync.result (g.D.Disk.tells c.args.disk.now).files (g.D.Disk.tells c.write_at.new.self).files (g.D.Disk.tells c.sync.new.self).files (omega (arith, some)) c.write_at.ensures.written c.sync.ensures.synced
+
+pub returns-in_err-write_at-clause-does : goal.returns-in_err-write_at-clause-does
+returns-in_err-write_at-clause-does g c =
+    breaks_as _ _ c.from_residual.result _ _ c.from_residual.ensures.1
+    (breaks_wide (Some (wrote c.args.file (c.args.end - 1) (1 ∷ [])) ∷ []) (Some (synced c.args.file) ∷ []) _ _ c.in_err-write_at.ensures.does)
+
+pub returns-in_err-sync-clause-does : goal.returns-in_err-sync-clause-does
+returns-in_err-sync-clause-does g c =
+    breaks_as _ _ c.from_residual-in_err-sync.result _ _ c.from_residual-in_err-sync.ensures.1
+    (breaks_then (Some (wrote c.args.file (c.args.end - 1) (1 ∷ [])) ∷ []) (Some (synced c.args.file) ∷ []) _ _ _ c.in_ok-write_at.ensures.does c.in_err-sync.ensures.does)

@@ -4,6 +4,10 @@ use Rattle.frame_journal.specs.Gates.{WritesBehind}
 use Rattle.frame_journal.proofs.BehindSteps.{write_ok, write_err, sync_ok, sync_err, writes}
 use Rattle.frame_journal.proofs.AppendSteps.{becomes_from}
 use Rattle.frame_journal.proofs.Closed.{leaves_both, leaves_wrote}
+use Rattle.frame_journal.proofs.Appending.{breaks_as}
+use Rattle.outside.proofs.MadeSteps.{breaks_then, breaks_wide}
+use Rattle.outside.specs.Changes.{synced, wrote}
+use Rattle.std.proofs.Common.{◌∷◌, [], Some}
 use Rattle.frame_journal.proofs.gates.write_behind.Goals as goal
 
 pub write_at-requires-clause-place : goal.write_at-requires-clause-place
@@ -57,3 +61,13 @@ returns-in_err-sync-clause-leaves g c some =
 pub returns-clause-leaves : goal.returns-clause-leaves
 returns-clause-leaves g c some =
     leaves_both c.args.file c.args.end c.args.bytes.now c.write_at.result c.sync.result (g.D.Disk.tells c.args.disk.now).files (g.D.Disk.tells c.write_at.new.self).files (g.D.Disk.tells c.sync.new.self).files some c.write_at.ensures.written c.sync.ensures.synced
+
+pub returns-in_err-write_at-clause-does : goal.returns-in_err-write_at-clause-does
+returns-in_err-write_at-clause-does g c =
+    breaks_as _ _ c.from_residual.result _ _ c.from_residual.ensures.1
+    (breaks_wide (Some (wrote c.args.file c.args.end c.args.bytes.now) ∷ []) (Some (synced c.args.file) ∷ []) _ _ c.in_err-write_at.ensures.does)
+
+pub returns-in_err-sync-clause-does : goal.returns-in_err-sync-clause-does
+returns-in_err-sync-clause-does g c =
+    breaks_as _ _ c.from_residual-in_err-sync.result _ _ c.from_residual-in_err-sync.ensures.1
+    (breaks_then (Some (wrote c.args.file c.args.end c.args.bytes.now) ∷ []) (Some (synced c.args.file) ∷ []) _ _ _ c.in_ok-write_at.ensures.does c.in_err-sync.ensures.does)

@@ -7,5 +7,5 @@ returns-clause-committed g c =
     c.commit.new.self c.args.batch c.commit.result _ g.D.Disk.tells c.args.disk.now
     c.commit.new.disk
     c.commit.ensures.numbers c.requires.ready.still_open c.requires.allowed c.commit.ensures.answer
-    c.commit.ensures.unasked c.commit.ensures.run c.commit.ensures.calls
+    c.commit.ensures.unasked c.commit.ensures.run c.commit.ensures.calls c.commit.ensures.appends
     (c.commit.ensures.extends c.requires.ready.still_open)

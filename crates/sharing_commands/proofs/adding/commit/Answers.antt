@@ -12,7 +12,7 @@ returns-in-Ok-clause-adds g c =
     (runs_commit c.images_stand.ensures clients c.args.store.now c.commit.new.self c.args.batch
     (Ok tt) _ g.D.Disk.tells c.args.disk.now c.commit.new.disk c.in-Ok.ensures.numbers
     c.requires.ready.still_open c.requires.allowed answer tt c.in-Ok.ensures.run
-    c.in-Ok.ensures.calls (c.in-Ok.ensures.extends c.requires.ready.still_open)) answer
+    c.in-Ok.ensures.calls c.in-Ok.ensures.appends (c.in-Ok.ensures.extends c.requires.ready.still_open)) answer
 
 pub returns-in-Err-Full-clause-adds : goal.returns-in-Err-Full-clause-adds
 returns-in-Err-Full-clause-adds g c =
@@ -23,7 +23,7 @@ returns-in-Err-Full-clause-adds g c =
     (Err fault.Full) _ g.D.Disk.tells c.args.disk.now c.commit.new.disk
     c.in-Err-Full.ensures.numbers c.requires.ready.still_open c.requires.allowed answer
     (rw c.in-Err-Full.field-0-is at c.in-Err-Full.ensures.unasked) c.in-Err-Full.ensures.run
-    (record { just = tt; most = c.in-Err-Full.ensures.calls.most })
+    (record { just = tt; most = c.in-Err-Full.ensures.calls.most }) c.in-Err-Full.ensures.appends
     (c.in-Err-Full.ensures.extends c.requires.ready.still_open)) answer
 
 pub returns-in-Err-Memory-clause-adds : goal.returns-in-Err-Memory-clause-adds
@@ -35,7 +35,7 @@ returns-in-Err-Memory-clause-adds g c =
     (Err fault.Memory) _ g.D.Disk.tells c.args.disk.now c.commit.new.disk
     c.in-Err-Memory.ensures.numbers c.requires.ready.still_open c.requires.allowed answer
     (rw c.in-Err-Memory.field-0-is at c.in-Err-Memory.ensures.unasked) c.in-Err-Memory.ensures.run
-    (record { just = tt; most = c.in-Err-Memory.ensures.calls.most })
+    (record { just = tt; most = c.in-Err-Memory.ensures.calls.most }) c.in-Err-Memory.ensures.appends
     (c.in-Err-Memory.ensures.extends c.requires.ready.still_open)) answer
 
 pub returns-in-Err-DiskFault-clause-adds : goal.returns-in-Err-DiskFault-clause-adds
@@ -47,5 +47,5 @@ returns-in-Err-DiskFault-clause-adds g c =
     (Err fault.DiskFault) _ g.D.Disk.tells c.args.disk.now c.commit.new.disk
     c.in-Err-DiskFault.ensures.numbers c.requires.ready.still_open c.requires.allowed answer tt
     c.in-Err-DiskFault.ensures.run
-    (record { just = tt; most = c.in-Err-DiskFault.ensures.calls.most })
+    (record { just = tt; most = c.in-Err-DiskFault.ensures.calls.most }) c.in-Err-DiskFault.ensures.appends
     (c.in-Err-DiskFault.ensures.extends c.requires.ready.still_open)) answer

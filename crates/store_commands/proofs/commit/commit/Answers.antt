@@ -12,7 +12,7 @@ returns-in-Ok-clause-added g c =
     runs_commit c.images_stand.ensures clients c.args.store.now c.commit_known.new.self c.args.batch
     (Ok tt) _ g.D.Disk.tells c.args.disk.now c.commit_known.new.disk c.in-Ok.ensures.numbers
     c.requires.ready.still_open c.requires.allowed answer tt c.in-Ok.ensures.run
-    c.in-Ok.ensures.calls (c.in-Ok.ensures.extends c.requires.ready.still_open) in
+    c.in-Ok.ensures.calls c.in-Ok.ensures.appends (c.in-Ok.ensures.extends c.requires.ready.still_open) in
     record {
       more = c.args.batch ∷ [];
       adds = (refl, tt, tt);
@@ -34,7 +34,7 @@ returns-in-Err-Full-clause-added g c =
     c.in-Err-Full.ensures.numbers
     c.requires.ready.still_open c.requires.allowed answer
     (rw c.in-Err-Full.field-0-is at c.in-Err-Full.ensures.unasked) c.in-Err-Full.ensures.run
-    (record { just = tt; most = c.in-Err-Full.ensures.calls.most })
+    (record { just = tt; most = c.in-Err-Full.ensures.calls.most }) c.in-Err-Full.ensures.appends
     (c.in-Err-Full.ensures.extends c.requires.ready.still_open) in
     record {
       more = [];
@@ -56,7 +56,7 @@ returns-in-Err-Memory-clause-added g c =
     c.requires.ready.still_open c.requires.allowed
     (rw c.in-Err-Memory.field-0-is at c.in-Err-Memory.ensures.answer)
     (rw c.in-Err-Memory.field-0-is at c.in-Err-Memory.ensures.unasked)
-    c.in-Err-Memory.ensures.run (record { just = tt; most = c.in-Err-Memory.ensures.calls.most })
+    c.in-Err-Memory.ensures.run (record { just = tt; most = c.in-Err-Memory.ensures.calls.most }) c.in-Err-Memory.ensures.appends
     (c.in-Err-Memory.ensures.extends c.requires.ready.still_open) in
     record {
       more = [];
@@ -78,7 +78,7 @@ returns-in-Err-DiskFault-clause-added g c =
     c.requires.ready.still_open c.requires.allowed
     (rw c.in-Err-DiskFault.field-0-is at c.in-Err-DiskFault.ensures.answer) tt
     c.in-Err-DiskFault.ensures.run
-    (record { just = tt; most = c.in-Err-DiskFault.ensures.calls.most })
+    (record { just = tt; most = c.in-Err-DiskFault.ensures.calls.most }) c.in-Err-DiskFault.ensures.appends
     (c.in-Err-DiskFault.ensures.extends c.requires.ready.still_open) in
     record {
       more = c.args.batch ∷ [];

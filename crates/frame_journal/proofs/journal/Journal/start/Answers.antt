@@ -3,6 +3,7 @@ use Rattle.outside.specs.Files.{read_files}
 use Rattle.outside.proofs.CallSteps.{looks_then, looks_call}
 use Rattle.frame_journal.specs.Journal.{is_format}
 use Rattle.frame_journal.proofs.Read.{read_files_of, begun_as}
+use Rattle.outside.proofs.MadeSteps.{look_changes}
 use Rattle.frame_journal.proofs.journal.Journal.start.Goals as goal
 
 pub returns-in_default-clause-start : goal.returns-in_default-clause-start
@@ -26,7 +27,7 @@ returns-in_err-len-clause-looks g c =
     let o0 = g.D.Disk.tells c.args.disk.now in
     let o1 = g.D.Disk.tells c.read_header.new.disk in
     let o2 = g.D.Disk.tells c.read_header-2.new.disk in
-    looks_call o0 o2 (g.D.Disk.tells c.len.new.self) (looks_then o0 o1 o2 c.read_header.ensures.looks c.read_header-2.ensures.looks) c.len.ensures.call c.len.ensures.same c.len.ensures.cause.later
+    looks_call o0 o2 (g.D.Disk.tells c.len.new.self) (looks_then o0 o1 o2 c.read_header.ensures.looks c.read_header-2.ensures.looks) c.len.ensures.call c.len.ensures.same c.len.ensures.cause.later (look_changes c.len.result _ _ c.len.ensures.does)
 
 pub returns-clause-start : goal.returns-clause-start
 returns-clause-start g c two told =
@@ -46,4 +47,14 @@ returns-clause-looks g c =
     let o0 = g.D.Disk.tells c.args.disk.now in
     let o1 = g.D.Disk.tells c.read_header.new.disk in
     let o2 = g.D.Disk.tells c.read_header-2.new.disk in
-    looks_call o0 o2 (g.D.Disk.tells c.len.new.self) (looks_then o0 o1 o2 c.read_header.ensures.looks c.read_header-2.ensures.looks) c.len.ensures.call c.len.ensures.same c.len.ensures.cause.later
+    looks_call o0 o2 (g.D.Disk.tells c.len.new.self) (looks_then o0 o1 o2 c.read_header.ensures.looks c.read_header-2.ensures.looks) c.len.ensures.call c.len.ensures.same c.len.ensures.cause.later (look_changes c.len.result _ _ c.len.ensures.does)
+
+pub returns-in_err-second-clause-looks : goal.returns-in_err-second-clause-looks
+returns-in_err-second-clause-looks g c =
+    looks_then (g.D.Disk.tells c.args.disk.now) (g.D.Disk.tells c.read_header.new.disk) (g.D.Disk.tells c.read_header-2.new.disk) c.read_header.ensures.looks
+    c.read_header-2.ensures.looks
+
+pub returns-in_default-clause-looks : goal.returns-in_default-clause-looks
+returns-in_default-clause-looks g c =
+    looks_then (g.D.Disk.tells c.args.disk.now) (g.D.Disk.tells c.read_header.new.disk) (g.D.Disk.tells c.read_header-2.new.disk) c.read_header.ensures.looks
+    c.read_header-2.ensures.looks

@@ -1,4 +1,4 @@
-use Rattle.std.proofs.Common.{◌≡◌, ◌+◌, List, [], ◌∷◌, ℕ, Option, Some, length, refl, sym, ap, ◌∙◌, subst, false, arith}
+use Rattle.std.proofs.Common.{◌≡◌, ◌+◌, List, [], ◌∷◌, ℕ, Option, Some, length, refl, sym, ap, ◌∙◌, subst, false, true, arith}
 use Rattle.std.proofs.Common.{Ok}
 use Rattle.outside.specs.Disk.{RelatesTold}
 use Rattle.outside.specs.Files.{Two, File, file_of}
@@ -23,6 +23,10 @@ use Rattle.sync_store.proofs.FitSteps.{adds_err, adds_ok, framed_len, rests}
 use Rattle.sync_store.proofs.Growth.{grown_store}
 use Rattle.sync_store.proofs.Limits.{counts_few, few_held}
 use Rattle.sync_store.proofs.SettleSteps.{adds_ready_fits}
+use Rattle.outside.specs.Made.{BreaksIn, DoesAll}
+use Rattle.frame_journal.specs.Appends.{append_calls}
+use Rattle.sync_store.specs.Appending.{AppendsFor}
+use Rattle.sync_store.proofs.SettleSteps.{appends_failed, appends_framed}
 use Rattle.sync_store.proofs.store.Store.append.Goals as goal
 
 -- where none waits, the file's end is the store's
@@ -240,3 +244,49 @@ returns-in-Ok-clause-ok g c =
     (ap (λ (j : JournalValue). j.end) c.in-Ok.ensures.ok)
     (ap (λ (j : JournalValue). j.format) c.in-Ok.ensures.ok)
     (ap (λ (j : JournalValue). j.generation) c.in-Ok.ensures.ok))
+
+pub returns-in-Ok-clause-appends : goal.returns-in-Ok-clause-appends
+returns-in-Ok-clause-appends g c =
+    let s = value_of c.self.inside in
+    let o = g.D.Disk.tells c.args.disk.now in
+    let o' = g.D.Disk.tells c.append.new.disk in
+    let framed = c.args.framed.now in
+    let none : s.waiting ≡ 0 ∷ [] = ap (λ (v : StoreValue). v.waiting) c.self.view_is
+    ∙ c.requires.ready.none_waits in
+    let at = ends_at c.self.inside.journal.end s.waiting none in
+    let new =
+    value_of (record {
+      alloc = c.self.inside.alloc;
+      state = c.take_known.new.self;
+      journal = c.append.new.self;
+      waiting = c.self.inside.waiting;
+      limit = c.self.inside.limit;
+      closed = c.self.inside.closed;
+    }) in
+    let ends : new.end ≡ s.end + length framed =
+    omega (arith, ap (λ (j : JournalValue). j.end) c.in-Ok.ensures.ok) in
+    subst (λ (v : StoreValue). AppendsFor v new o o') c.self.view_is
+    (appends_framed s new framed o o' c.requires.may.is_framed ends refl
+    (subst (λ n. DoesAll (append_calls s.file n framed) o o') at c.in-Ok.ensures.does))
+
+pub returns-in-Err-clause-appends : goal.returns-in-Err-clause-appends
+returns-in-Err-clause-appends g c =
+    let s = value_of c.self.inside in
+    let o = g.D.Disk.tells c.args.disk.now in
+    let o' = g.D.Disk.tells c.append.new.disk in
+    let framed = c.args.framed.now in
+    let none : s.waiting ≡ 0 ∷ [] = ap (λ (v : StoreValue). v.waiting) c.self.view_is
+    ∙ c.requires.ready.none_waits in
+    let at = ends_at c.self.inside.journal.end s.waiting none in
+    let new =
+    value_of (record {
+      alloc = c.self.inside.alloc;
+      state = c.self.inside.state;
+      journal = c.append.new.self;
+      waiting = c.self.inside.waiting;
+      limit = c.self.inside.limit;
+      closed = true;
+    }) in
+    subst (λ (v : StoreValue). AppendsFor v new o o') c.self.view_is
+    (appends_failed s new framed o o' c.requires.may.is_framed refl
+    (subst (λ n. BreaksIn (append_calls s.file n framed) o o') at c.in-Err.ensures.does))

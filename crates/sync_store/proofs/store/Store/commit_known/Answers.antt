@@ -6,6 +6,7 @@ use Rattle.sync_store.specs.Store.{StoreValue, IsStore}
 use Rattle.sync_store.proofs.FitSteps.{leads_none, fits_same}
 use Rattle.sync_store.proofs.Growth.{fits_by, may_add, no_calls, ready_same, with_none}
 use Rattle.sync_store.proofs.MigrateSteps.{same_self}
+use Rattle.sync_store.proofs.SettleSteps.{appends_same}
 use Rattle.sync_store.proofs.store.Store.commit_known.Goals as goal
 
 pub returns-then-is_full-clause-extends : goal.returns-then-is_full-clause-extends
@@ -132,3 +133,20 @@ frame-requires-clause-allowed g c =
     let still : c.args.self.now.closed ≡ false =
     ap (λ (v : StoreValue). v.closed) (sym c.self.view_is) ∙ c.if-self.false in
     (g.C.Clients.meaning c.args.clients.now, c.requires.allowed still)
+
+pub returns-then-self-clause-appends : goal.returns-then-self-clause-appends
+returns-then-self-clause-appends g c =
+    appends_same c.args.self.now c.args.self.now (g.D.Disk.tells c.args.disk.now) refl refl
+
+pub returns-then-is_full-clause-appends : goal.returns-then-is_full-clause-appends
+returns-then-is_full-clause-appends g c =
+    appends_same c.args.self.now c.args.self.now (g.D.Disk.tells c.args.disk.now) refl refl
+
+pub returns-in_err-framed-clause-appends : goal.returns-in_err-framed-clause-appends
+returns-in_err-framed-clause-appends g c =
+    appends_same c.args.self.now c.args.self.now (g.D.Disk.tells c.args.disk.now) refl refl
+
+pub returns-in_err-reserve-clause-appends : goal.returns-in_err-reserve-clause-appends
+returns-in_err-reserve-clause-appends g c =
+    appends_same c.args.self.now _ (g.D.Disk.tells c.args.disk.now)
+    (ap (λ (v : StoreValue). v.end) c.self.view_is) (ap (λ (v : StoreValue). v.closed) c.self.view_is)

@@ -11,6 +11,7 @@ use Rattle.sync_store.specs.Inside.{value_of}
 use Rattle.sync_store.specs.Groups.{AddsAll, HasGathered, IsGathering}
 use Rattle.sync_store.proofs.GroupSteps.{adds_all, adds_failed, emptied_store, end_before}
 use Rattle.sync_store.proofs.GroupSteps.{flushed_store, ready_added, rests_before, same_files, same_passed}
+use Rattle.sync_store.proofs.GroupAppends.{group_appended, group_appends, group_breaks, group_broken}
 use Rattle.sync_store.proofs.store.Store.flush.Goals as goal
 
 pub flush-requires-clause-fits : goal.flush-requires-clause-fits
@@ -101,3 +102,36 @@ returns-in-Ok-clause-numbers g c =
     emptied_store s _ c.self.invariant
     (flushed_store s c.self.inside.journal c.flush.new.self c.flush.new.group refl refl refl refl
     c.in-Ok.ensures.ok c.in-Ok.ensures.empty)
+
+pub returns-in-Ok-clause-appends : goal.returns-in-Ok-clause-appends
+returns-in-Ok-clause-appends g c before more gathered =
+    let clients = g.C.Clients.meaning c.args.clients.now in
+    let s = value_of c.self.inside in
+    let o = g.D.Disk.tells c.args.disk.now in
+    let o' = g.D.Disk.tells c.flush.new.disk in
+    let g' = subst (λ (v : StoreValue). HasGathered clients before v more) (sym c.self.view_is)
+    gathered in
+    let j = c.self.inside.journal in
+    let file : j.file ≡ before.file = g'.file in
+    let end : j.end ≡ before.end = sym (end_before clients before s more j.end g' refl) in
+    let is = flushed_store s j c.flush.new.self c.flush.new.group refl refl refl refl
+    c.in-Ok.ensures.ok c.in-Ok.ensures.empty in
+    let still : s.closed ≡ false = ap (λ (v : StoreValue). v.closed) c.self.view_is
+    ∙ c.requires.gathering.still_open in
+    group_appended before s _ j.file j.end o o' file end
+    (ap (λ (v : StoreValue). v.end) is ∙ g'.end) still
+    (group_appends j.file j.end s.waiting o o' c.self.invariant.waits c.in-Ok.ensures.does)
+
+pub returns-in-Err-clause-appends : goal.returns-in-Err-clause-appends
+returns-in-Err-clause-appends g c before more gathered =
+    let clients = g.C.Clients.meaning c.args.clients.now in
+    let s = value_of c.self.inside in
+    let o = g.D.Disk.tells c.args.disk.now in
+    let o' = g.D.Disk.tells c.flush.new.disk in
+    let g' = subst (λ (v : StoreValue). HasGathered clients before v more) (sym c.self.view_is)
+    gathered in
+    let j = c.self.inside.journal in
+    let file : j.file ≡ before.file = g'.file in
+    let end : j.end ≡ before.end = sym (end_before clients before s more j.end g' refl) in
+    group_broken before _ j.file j.end o o' file end refl
+    (group_breaks j.file j.end s.waiting o o' c.self.invariant.waits c.in-Err.ensures.does)

@@ -15,7 +15,7 @@ use Rattle.sync_store.proofs.Errors.{err_is}
 use Rattle.sync_store.proofs.LoadEnds.{answers, answers_fault, barrier_told, images_then}
 use Rattle.sync_store.proofs.LoadEnds.{knows_none, loads_at, reads_leaves, ready_loaded, starts_fault}
 use Rattle.sync_store.proofs.LoadEnds.{starts_leaves, starts_so_far, starts_some, store_of}
-use Rattle.sync_store.proofs.LoadCounts.{loads_cut, loads_failed, loads_whole}
+use Rattle.sync_store.proofs.LoadCounts.{load_broke, load_looks, loads_cut, loads_failed, loads_whole}
 use Rattle.sync_store.proofs.store.Store.load.Goals as goal
 
 pub returns-in_err-journal-clause-answer : goal.returns-in_err-journal-clause-answer
@@ -234,3 +234,43 @@ returns-clause-calls g c two told j stood =
     c.in_ok-journal.ensures.calls.just
     (c.in_ok-read_all.ensures.calls mid.0 (c.start.ensures.looks.same_files
     ∙ mid.1) j (ap (stands clients) mid.2 ∙ stood))
+
+pub returns-in_err-journal-clause-does : goal.returns-in_err-journal-clause-does
+returns-in_err-journal-clause-does g c =
+    load_looks c.from_residual-in_err-journal.result (g.D.Disk.tells c.args.disk.now) (g.D.Disk.tells c.barrier.new.disk)
+    (g.D.Disk.tells c.start.new.disk) c.in_ok-barrier.ensures.does c.start.ensures.looks
+
+pub returns-in_err-state-clause-does : goal.returns-in_err-state-clause-does
+returns-in_err-state-clause-does g c =
+    load_looks c.from_residual-in_err-state.result (g.D.Disk.tells c.args.disk.now) (g.D.Disk.tells c.barrier.new.disk)
+    (g.D.Disk.tells c.start.new.disk) c.in_ok-barrier.ensures.does c.start.ensures.looks
+
+pub returns-in_err-read_all-clause-does : goal.returns-in_err-read_all-clause-does
+returns-in_err-read_all-clause-does g c =
+    let o1 = g.D.Disk.tells c.barrier.new.disk in
+    let o2 = g.D.Disk.tells c.start.new.disk in
+    let o3 = g.D.Disk.tells c.read_all.new.disk in
+    load_looks c.from_residual-in_err-read_all.result (g.D.Disk.tells c.args.disk.now) (g.D.Disk.tells c.barrier.new.disk)
+    (g.D.Disk.tells c.read_all.new.disk) c.in_ok-barrier.ensures.does (looks_then o1 o2 o3 c.start.ensures.looks c.read_all.ensures.looks)
+
+pub returns-in_err-barrier-clause-does : goal.returns-in_err-barrier-clause-does
+returns-in_err-barrier-clause-does g c =
+    load_broke c.from_residual.result (g.D.Disk.tells c.args.disk.now)
+    (g.D.Disk.tells c.barrier.new.disk)
+    (err_is c.from_residual.result load.DiskFault c.from_residual.ensures.1)
+    c.in_err-barrier.ensures.does
+
+pub returns-clause-does : goal.returns-clause-does
+returns-clause-does g c =
+    let o1 = g.D.Disk.tells c.barrier.new.disk in
+    let o2 = g.D.Disk.tells c.start.new.disk in
+    let o3 = g.D.Disk.tells c.read_all.new.disk in
+    load_looks (Ok (store_of c.read_all.new.journal c.read_all.new.state c.args.limit))
+    (g.D.Disk.tells c.args.disk.now) o1 o3 c.in_ok-barrier.ensures.does
+    (looks_then o1 o2 o3 c.start.ensures.looks c.read_all.ensures.looks)
+
+pub returns-in_err-waiting-clause-does : goal.returns-in_err-waiting-clause-does
+returns-in_err-waiting-clause-does g c =
+    load_looks c.from_residual-in_err-waiting.result (g.D.Disk.tells c.args.disk.now)
+    (g.D.Disk.tells c.barrier.new.disk) (g.D.Disk.tells c.start.new.disk)
+    c.in_ok-barrier.ensures.does c.start.ensures.looks

@@ -34,7 +34,7 @@ returns-clause-makes g c before kept waits gathered =
     room_made clients before s new waits c.flush.result o o' e.numbers
     c.requires.gathering.still_open e.ok e.err gathered
     (flush_added clients before s new waits c.flush.result o o' e.ok e.err e.run e.calls gathered
-    (e.adds before kept waits gathered))
+    (e.appends before waits gathered) (e.adds before kept waits gathered))
     (sym c.has_group_room.ensures ∙ c.if-has_group_room.false)
 
 pub returns-clause-same : goal.returns-clause-same

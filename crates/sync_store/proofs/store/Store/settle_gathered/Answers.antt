@@ -48,7 +48,8 @@ returns-in_err-flush-clause-settles g c before kept waits gathered =
     (c.gather_settling-settled.ensures.settles before kept waits gathered)
     (keeps_flushed s new (Err e) tt f.err)
     (λ mid kept' rest g'. flush_added clients mid s new rest (Err e) o1 o2 tt f.err
-    c.flush.ensures.run f.calls g' (c.flush.ensures.adds mid kept' rest g'))
+    c.flush.ensures.run f.calls g' (c.flush.ensures.appends mid rest g')
+    (c.flush.ensures.adds mid kept' rest g'))
     (ap (λ (v : StoreValue). v.closed) f.err.1))
 
 pub returns-clause-settles : goal.returns-clause-settles
@@ -67,7 +68,8 @@ returns-clause-settles g c before kept waits gathered =
     (c.gather_settling-settled.ensures.settles before kept waits gathered)
     (keeps_flushed s new (Ok tt) f.ok tt)
     (λ mid kept' rest g'. flush_added clients mid s new rest (Ok tt) o1 o2 f.ok tt
-    c.flush.ensures.run f.calls g' (c.flush.ensures.adds mid kept' rest g'))
+    c.flush.ensures.run f.calls g' (c.flush.ensures.appends mid rest g')
+    (c.flush.ensures.adds mid kept' rest g'))
     (ap (λ (v : StoreValue). v.closed) f.ok ∙ was)
 
 pub returns-in_err-flush-clause-run : goal.returns-in_err-flush-clause-run
