@@ -1,5 +1,5 @@
 -- What the calls of a store come to, as acts; and a batch that is added beside the sessions.
-use Rattle.std.proofs.Common.{◌++◌, [], ◌∷◌, ◌≡◌, ◌<◌, false, List, ◌∙◌, subst, Result, Ok, Err, Some, ◌≢◌, ℕ, refl, sym, ap, inl, inr, arith, append-nil}
+use Rattle.std.proofs.Common.{true, ◌++◌, [], ◌∷◌, ◌≡◌, ◌<◌, false, List, ◌∙◌, subst, Result, Ok, Err, Some, ◌≢◌, ℕ, refl, sym, ap, inl, inr, arith, append-nil}
 use Rattle.sync_rules.specs.Clients.{Meaning}
 use Rattle.sync_rules.specs.Facts.{Facts, Journal, after_all, after_batches, facts, session_at}
 use Rattle.sync_rules.specs.Legal.{AllSettling}
@@ -7,12 +7,14 @@ use Rattle.outside.specs.Faults.{CountRose}
 use Rattle.outside.specs.Files.{Two, File}
 use Rattle.outside.specs.Outside.{DiskRun, MakesAtMost, Outside}
 use Rattle.sync_rules.specs.declared.entries.Entry.{Entry}
+use Rattle.sync_store.specs.Appending.{AppendsFor}
 use Rattle.sync_store.specs.Commits.{needed}
 use Rattle.sync_store.specs.Fitting.{FitsFiles}
 use Rattle.sync_store.specs.Moments.{IsBetween, WithAtMost, JournalMoment, LeadsTo}
 use Rattle.sync_store.specs.Ready.{IsReady}
 use Rattle.sync_store.specs.Runs.{HasExtended, AddsBatch}
 use Rattle.sync_store.specs.Settling.{HasSettled}
+use Rattle.sync_store.proofs.Runs.{runs_within, settled_within}
 use Rattle.sync_store.specs.Store.{StoreValue}
 use Rattle.sync_store.specs.declared.fault.StoreFault.{StoreFault}
 use Rattle.sync_course.specs.Acts.{commit_acts}
@@ -50,26 +52,26 @@ AddsTo clients batch result s s' o o' =
 
 pub commit_did : (clients : Meaning) (s s' : StoreValue) (batch : List Entry) (u : Unit {0})
     (o o' : Outside) → IsReady clients s o.files → DiskRun o o' → MakesAtMost 4 o o'
-    → store_commits.AnswersCommit s s' batch (Ok u) → (s'.closed ≡ false → IsReady clients s' o'.files)
+    → AppendsFor s s' o o' → store_commits.AnswersCommit s s' batch (Ok u) → (s'.closed ≡ false → IsReady clients s' o'.files)
     → AddsTo clients batch (Ok u) s s' o o' → Committed clients batch s s' o o'
-commit_did clients s s' batch u o o' ready run made answer ready' adds = record {
+commit_did clients s s' batch u o o' ready run made appends answer ready' adds = record {
   did =
       did_batches clients s s' (batch ∷ []) o o' (λ j whole. WithAtMost j batch whole)
-      (λ j whole. whole ≡ j ++ batch ∷ []) ready.fits run made answer.2.limit answer.2.format
-      (at_most_between batch) adds answer.2.closed (λ j whole is. is);
+      (λ j whole. whole ≡ j ++ batch ∷ []) ready.fits run made appends answer.2.file answer.2.limit
+      answer.2.format (at_most_between batch) adds answer.2.closed (λ j whole is. is);
   facts = answer.2.facts;
   ready = ready' answer.2.closed;
 }
 
 pub commit_breaks : (clients : Meaning) (s s' : StoreValue) (batch : List Entry) (o o' : Outside)
-    → IsReady clients s o.files → DiskRun o o' → MakesAtMost 4 o o'
+    → IsReady clients s o.files → DiskRun o o' → MakesAtMost 4 o o' → AppendsFor s s' o o'
     → store_commits.AnswersCommit s s' batch (Err store_fault.DiskFault)
     → AddsTo clients batch (Err store_fault.DiskFault) s s' o o'
     → CountRose o.disk_faults o'.disk_faults → Breaks clients (batch ∷ []) s s' o o'
-commit_breaks clients s s' batch o o' ready run made answer adds rose =
+commit_breaks clients s s' batch o o' ready run made appends answer adds rose =
     did_breaks clients s s' (batch ∷ []) o o' (λ j whole. WithAtMost j batch whole)
-    (λ j whole. whole ≡ j) ready.fits run made answer.2.limit answer.2.format
-    (at_most_between batch) adds rose
+    (λ j whole. whole ≡ j) ready.fits run made appends answer.2.file answer.2.limit
+    answer.2.format (at_most_between batch) adds ready.still_open answer.2.closed rose
 
 -- the host was not called, and the store is as it was
 pub commit_idle : {H : Type 0} (tells : H → Outside) (clients : Meaning) (s s' : StoreValue)
@@ -82,7 +84,7 @@ commit_idle tells clients s s' batch e host host' ready run stays ready' same ad
     let still : s'.closed ≡ false = stays.closed ∙ ready.still_open in
     record {
       did =
-          did_unasked tells clients s s' host host' same stays.limit stays.format
+          did_unasked tells clients s s' host host' same stays.file stays.end stays.limit stays.format
           (λ j fit.
           let two' = told_as (tells host).files (tells host').files fit.0 run.same_told fit.1 in
           let end = (adds fit.0 fit.1 j fit.2).ends still two'.0 two'.1 in
@@ -101,8 +103,8 @@ settle_by clients s s' result o o' ready run has still ready' = record {
   settling = has.comes.settling;
   did =
       did_batches clients s s' has.more o o' (λ j whole. IsBetween j has.more whole)
-      (λ j whole. whole ≡ j ++ has.more) ready.fits run (settled_within clients s s' result o o' has) has.comes.limit
-      has.comes.format (λ j whole between. between) has.comes.leads still (λ j whole is. is);
+      (λ j whole. whole ≡ j ++ has.more) ready.fits run (settled_within clients s s' result o o' has) has.comes.calls.appends
+      has.comes.file has.comes.limit has.comes.format (λ j whole between. between) has.comes.leads still (λ j whole is. is);
   facts = has.comes.facts;
   ready = ready' still;
 }
@@ -117,15 +119,16 @@ settle_did clients s s' u o o' ready run has ready' = record {
 
 pub settle_breaks : (clients : Meaning) (s s' : StoreValue) (result : Result (Unit {0}) StoreFault)
     (o o' : Outside) → IsReady clients s o.files → DiskRun o o'
-    → HasSettled clients s s' result o o' → CountRose o.disk_faults o'.disk_faults
+    → HasSettled clients s s' result o o' → s'.closed ≡ true → CountRose o.disk_faults o'.disk_faults
     → SettlingBreaks clients s s' o o'
-settle_breaks clients s s' result o o' ready run has rose = record {
+settle_breaks clients s s' result o o' ready run has shut rose = record {
   more = has.more;
   settling = has.comes.settling;
   breaks =
       did_breaks clients s s' has.more o o' (λ j whole. IsBetween j has.more whole)
-      (λ j whole. whole ≡ j ++ has.more) ready.fits run (settled_within clients s s' result o o' has) has.comes.limit
-      has.comes.format (λ j whole between. between) has.comes.leads rose;
+      (λ j whole. whole ≡ j ++ has.more) ready.fits run (settled_within clients s s' result o o' has) has.comes.calls.appends
+      has.comes.file has.comes.limit has.comes.format (λ j whole between. between) has.comes.leads
+      ready.still_open shut rose;
 }
 
 -- ---- a batch that is added
@@ -136,8 +139,9 @@ module _ (clients : Meaning) (batch : List Entry) (s s' : StoreValue)
   all_did : s'.closed ≡ false → Did clients (commit_acts has.more) s s' o o'
   all_did still =
       did_batches clients s s' has.more o o' (λ j whole. IsBetween j has.more whole)
-      (λ j whole. whole ≡ j ++ has.more) ready.fits has.runs.run (runs_within clients s s' o o' has.more has.runs) has.runs.limit
-      has.runs.format (λ j whole between. between) has.runs.leads still (λ j whole is. is)
+      (λ j whole. whole ≡ j ++ has.more) ready.fits has.runs.run
+      (runs_within clients s s' o o' has.more has.runs) has.runs.calls.appends
+      has.runs.file has.runs.limit has.runs.format (λ j whole between. between) has.runs.leads still (λ j whole is. is)
 
   pub add_by : s'.closed ≡ false → (s'.closed ≡ false → IsReady clients s' o'.files)
       → CommitsAndSettles clients batch s s' o o'
@@ -149,15 +153,16 @@ module _ (clients : Meaning) (batch : List Entry) (s s' : StoreValue)
     ready = ready' still;
   }
 
-  pub add_breaks : CountRose o.disk_faults o'.disk_faults → AddingBreaks clients batch s s' o o'
-  add_breaks rose = record {
+  pub add_breaks : s'.closed ≡ true → CountRose o.disk_faults o'.disk_faults → AddingBreaks clients batch s s' o o'
+  add_breaks shut rose = record {
     more = has.more;
     adds = has.adds;
     breaks =
         did_breaks clients s s' has.more o o' (λ j whole. IsBetween j has.more whole)
-        (λ j whole. whole ≡ j ++ has.more) ready.fits has.runs.run (runs_within clients s s' o o' has.more has.runs)
-        has.runs.limit
-        has.runs.format (λ j whole between. between) has.runs.leads rose;
+        (λ j whole. whole ≡ j ++ has.more) ready.fits has.runs.run
+      (runs_within clients s s' o o' has.more has.runs)
+        has.runs.calls.appends has.runs.file has.runs.limit
+        has.runs.format (λ j whole between. between) has.runs.leads ready.still_open shut rose;
   }
 
   pub add_full : has.more ≡ [] → s.limit < needed s batch → s'.closed ≡ false

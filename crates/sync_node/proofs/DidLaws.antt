@@ -1,5 +1,7 @@
 -- What calls did, one behind the other.
 use Rattle.std.proofs.Common.{◌≡◌, ℕ, ◌+◌, ◌*◌, List, [], ◌++◌, append-nil, append_assoc, length, length-append, refl, sym, ◌∙◌, ap, subst, inl, inr, arith}
+use Rattle.frame_journal.specs.Appends.{Appends, BreaksAppends}
+use Rattle.frame_journal.proofs.Appending.{appends_none, appends_then, breaks_behind}
 use Rattle.outside.specs.Outside.{MakesAtMost, Moment, Outside}
 use Rattle.outside.specs.Runs.{TellsAll}
 use Rattle.outside.proofs.CallCounts.{most_none, most_then}
@@ -103,6 +105,8 @@ did_none clients s o = record {
   format = refl;
   fits = λ j fit. subst (λ (k : Journal). FitsWith clients s o.files k) (sym (append-nil j)) fit;
   calls = most_none 0 o;
+  file = refl;
+  appends = appends_none s.file s.end o;
   moments = λ told j fit. since_none o (AtFront clients [] j (sent_on o.links));
 }
 
@@ -162,6 +166,10 @@ did_then {clients = clients} {acts = acts} {bs = bs} {s = s} {s1 = s1} {s2 = s2}
           subst (λ (n : ℕ). MakesAtMost n o o2) (calls_add acts bs [])
           (most_then (4 * length (batches_in acts)) (4 * length (batches_in bs)) o o1 o2 first.calls
           second.calls);
+      file = second.file ∙ first.file;
+      appends =
+          appends_then s.file s.end s1.end s2.end o o1 o2 first.appends
+          (subst (λ (f : ℕ). Appends f s1.end s2.end o1 o2) first.file second.appends);
       moments = fronts_then clients acts bs s s1 s2 o o1 o2 first second.moments;
     }
 
@@ -184,6 +192,9 @@ some_then {clients = clients} {acts = acts} {bs = bs} {next = next} {s = s} {s1 
           subst (λ (n : ℕ). MakesAtMost n o o2) (calls_add acts bs next)
           (most_then (4 * length (batches_in acts)) (4 * length (next ++ batches_in bs)) o o1 o2
           first.calls second.calls);
+      breaks =
+          breaks_behind s.file s.end s1.end o o1 o2 first.appends
+          (subst (λ (f : ℕ). BreaksAppends f s1.end o1 o2) first.file second.breaks);
       moments =
           subst (λ (acts : List Act). ComesAtFronts clients acts s o o2)
           (sym (append_assoc acts bs (commit_acts next)))

@@ -7,7 +7,11 @@ use Rattle.sync_store.specs.Store.{StoreValue}
 use Rattle.sync_course.specs.Links as course_links
 use Rattle.sync_course.specs.Owing.{Owing, paid}
 use Rattle.sync_course.specs.Turns.{Place, RunStep, Terms}
+use Rattle.sync_course.specs.Acts.{Act}
+use Rattle.sync_node.specs.Cuts.{CutBy}
 use Rattle.sync_node.specs.declared.fault.Fault.{Fault}
+use Rattle.sync_node.specs.declared.fault.Fault.TheVariants as fault
+use Rattle.sync_node.specs.Went.{Stopped}
 use Rattle.sync_node.specs.declared.link.Link.{Link}
 use Rattle.sync_node.specs.Courses.{BreaksBeginning, BreaksTurn, MakesTurn, RunBreaks, RunRuns}
 use Rattle.sync_node.specs.OnRuns.{BeginStopped, RoundStopped, RoundWent, RunStopped, RunWent}
@@ -26,6 +30,14 @@ module _ (clients : Meaning) (terms : Terms) where
       breaks_of clients (λ (x : Place). x.facts) terms.first (RunStep clients terms)
       (λ (q : Owing Place). q.at.links ≡ links) (paid p) s s' o o' e stops
 
+-- the calls of the disk, where a run was broken off
+cut_of : {P : Type 0} (clients : Meaning) (step : P → Act → P → Type 0) (Has : P → Type 0) (p : P)
+    (s s' : StoreValue) (o o' : Outside) (e : Fault) → Stopped clients step Has p s s' o o' e
+    → CutBy e s o o'
+cut_of clients step Has p s s' o o' fault.Memory stops = (s'.end, stops.went.did.appends)
+cut_of clients step Has p s s' o o' fault.Full stops = (s'.end, stops.went.did.appends)
+cut_of clients step Has p s s' o o' fault.DiskFault stops = stops.did.breaks
+
 module _ (clients : Meaning) (first : ℕ) (links links' : List Link) (s s' : StoreValue)
     (o o' : Outside) where
   -- a turn
@@ -42,19 +54,20 @@ module _ (clients : Meaning) (first : ℕ) (links links' : List Link) (s s' : St
   }
 
   pub turn_breaks : (e : Fault) → RoundStopped clients first links links' s s' o o' e
-      → BreaksTurn clients first links s o o'
+      → BreaksTurn clients e first links s o o'
   turn_breaks e w = record {
     stops = λ terms heard moved still made same read more.
-        run_breaks clients terms _ _ s s' o o' e
-        (w.stops terms heard moved still made same read more).1;
+        let stopped = (w.stops terms heard moved still made same read more).1 in
+        (run_breaks clients terms _ _ s s' o o' e stopped, cut_of clients _ _ _ s s' o o' e stopped);
   }
 
 -- a session that begins
 pub beginning_breaks : (clients : Meaning) (session : Session) (links links' : List Link)
     (s s' : StoreValue) (o o' : Outside) (e : Fault)
     → BeginStopped clients session links links' s s' o o' e
-    → BreaksBeginning clients session links s o o'
+    → BreaksBeginning clients e session links s o o'
 beginning_breaks clients session links links' s s' o o' e w = record {
   stops = λ terms left heard moved still made.
-      run_breaks clients terms _ _ s s' o o' e (w.stops terms left heard moved still made);
+      let stopped = w.stops terms left heard moved still made in
+      (run_breaks clients terms _ _ s s' o o' e stopped, cut_of clients _ _ _ s s' o o' e stopped);
 }

@@ -10,6 +10,9 @@ use Rattle.outside.specs.Faults.{CountRose}
 use Rattle.outside.specs.Files.{Two, File}
 use Rattle.outside.specs.Host.{SendsOnLink, SendsPart}
 use Rattle.outside.specs.Links.{Links, sent_of, with_sent}
+use Rattle.outside.proofs.MadeSteps.{does_link}
+use Rattle.frame_journal.specs.Appends.{Appends}
+use Rattle.sync_store.specs.Appending.{AppendsFor}
 use Rattle.outside.specs.Outside.{DiskRun, LinkCall, MakesAtMost, Moment, Outside, QuietCall}
 use Rattle.outside.proofs.RunLaws.{quiet_moments, send_moments, sent_at-other, sent_at-with_sent}
 use Rattle.sync_rules.specs.Clients.{Meaning}
@@ -66,7 +69,8 @@ at_batch clients may j P links m between at =
 
 module _ (clients : Meaning) (s s' : StoreValue) (may : Journal) (o o' : Outside)
     (P Q : Journal → Journal → Type 0) (fits : FitsSome clients s o.files) (run : DiskRun o o')
-    (made : MakesAtMost (4 * length may) o o') (limit : s'.limit ≡ s.limit)
+    (made : MakesAtMost (4 * length may) o o') (appends : AppendsFor s s' o o')
+    (file : s'.file ≡ s.file) (limit : s'.limit ≡ s.limit)
     (format : s'.format ≡ s.format)
     (between : (j whole : Journal) → P j whole → IsBetween j may whole)
     (leads : (two : Two File) → o.files ≡ Some two → (j : Journal) → FitsFiles clients s j two
@@ -112,13 +116,15 @@ module _ (clients : Meaning) (s s' : StoreValue) (may : Journal) (o o' : Outside
               (end.0, all k end.0 end.1, end.2);
         }) j fit);
     calls = subst (λ (l : Journal). MakesAtMost (4 * length l) o o') (sym (batches_in_commits may)) made;
+    file = file;
+    appends = appends.all still;
     moments = batch_fronts;
   }
 
   -- some of them, and a call of the disk failed
-  did_some : (stood : ReadsFront clients may s o o')
+  did_some : s.closed ≡ false → s'.closed ≡ true → (stood : ReadsFront clients may s o o')
       → DidSome clients (commit_acts stood.front) stood.others s s' o o'
-  did_some stood = record {
+  did_some opened shut stood = record {
     goes = goes_led clients s s' o o' P Q fits run leads;
     tells = batch_tells stood.front;
     sent = batch_sent stood.front;
@@ -131,29 +137,38 @@ module _ (clients : Meaning) (s s' : StoreValue) (may : Journal) (o o' : Outside
         subst (λ (l : Journal). MakesAtMost (4 * length (stood.others ++ l)) o o')
         (sym (batches_in_commits stood.front))
         (subst (λ (n : ℕ). MakesAtMost n o o') (calls_parts may stood.front stood.others stood.parts) made);
+    breaks = appends.broken opened shut;
     moments =
         subst (λ (acts : List Act). ComesAtFronts clients acts s o o')
         (ap commit_acts stood.parts ∙ commit_acts-append stood.front stood.others) batch_fronts;
   }
 
-  pub did_breaks : CountRose o.disk_faults o'.disk_faults → Breaks clients may s s' o o'
-  did_breaks rose =
+  pub did_breaks : s.closed ≡ false → s'.closed ≡ true → CountRose o.disk_faults o'.disk_faults
+      → Breaks clients may s s' o o'
+  did_breaks opened shut rose =
       let stood = reads_front clients s s' may o o' P Q fits run.same_told between leads in
       record {
         front = stood.front;
         others = stood.others;
         parts = stood.parts;
-        did = did_some stood;
+        did = did_some opened shut stood;
         rose = rose;
       }
 
+-- a call on the links or the clock appends nothing
+quiet_appends : (during : Moment → Type 0) (s : StoreValue) (o o' : Outside) → LinkCall during o o'
+    → Appends s.file s.end s.end o o'
+quiet_appends during s o o' call =
+    record { added = []; frames = tt; ends = refl; does = does_link during o o' call }
+
 -- a call that did not reach the host
 pub did_unasked : {H : Type 0} (tells : H → Outside) (clients : Meaning) (s s' : StoreValue)
-    (host host' : H) → host' ≡ host → s'.limit ≡ s.limit → s'.format ≡ s.format
+    (host host' : H) → host' ≡ host → s'.file ≡ s.file → s'.end ≡ s.end → s'.limit ≡ s.limit
+    → s'.format ≡ s.format
     → ((j : Journal) → FitsWith clients s (tells host).files j
     → FitsWith clients s' (tells host').files j)
     → Did clients [] s s' (tells host) (tells host')
-did_unasked {H} tells clients s s' host host' same limit format fits =
+did_unasked {H} tells clients s s' host host' same file end limit format fits =
     subst (λ (x : H). ((j : Journal) → FitsWith clients s (tells host).files j
     → FitsWith clients s' (tells x).files j) → Did clients [] s s' (tells host) (tells x)) (sym same)
     (λ fits. let none = did_none clients s (tells host) in record {
@@ -166,6 +181,8 @@ did_unasked {H} tells clients s s' host host' same limit format fits =
           subst (λ (k : Journal). FitsWith clients s' (tells host).files k) (sym (append-nil j))
           (fits j fit);
       calls = none.calls;
+      file = file;
+      appends = subst (λ (n : ℕ). Appends s.file s.end n (tells host) (tells host)) (sym end) none.appends;
       moments = none.moments;
     }) fits
 
@@ -190,6 +207,8 @@ did_quiet clients a s o o' none silent goes call same_told tells = record {
   calls =
       subst (λ (l : Journal). MakesAtMost (4 * length l) o o') (sym none)
       (quiet_most (o'.moments o'.clock) o o' call);
+  file = refl;
+  appends = quiet_appends (o'.moments o'.clock) s o o' call;
   moments = λ told j fit. record {
     later = call.time.later;
     before = λ t m since at. elim (call.time.nothing_else t m since at) [
@@ -218,6 +237,8 @@ did_pass clients a s o none silent tells =
       fits = λ j fit.
           subst (λ (l : Journal). FitsWith clients s o.files (j ++ l)) (sym none) (nothing.fits j fit);
       calls = subst (λ (l : Journal). MakesAtMost (4 * length l) o o) (sym none) nothing.calls;
+      file = refl;
+      appends = nothing.appends;
       moments = λ told j fit. since_none o (AtFront clients (a ∷ []) j (sent_on o.links));
     }
 
@@ -310,6 +331,8 @@ module _ (stand : ImagesStand) (clients : Meaning) (link : ℕ) (bytes : List �
     format = refl;
     fits = none_behind;
     calls = quiet_most (SendsPart o link bytes) o o' call;
+    file = refl;
+    appends = quiet_appends (SendsPart o link bytes) s o o' call;
     moments = at_send (Send link bytes) (λ i. refl);
   }
 
@@ -324,5 +347,7 @@ module _ (stand : ImagesStand) (clients : Meaning) (link : ℕ) (bytes : List �
     format = refl;
     fits = none_behind;
     calls = quiet_most (SendsPart o link bytes) o o' call;
+    file = refl;
+    appends = quiet_appends (SendsPart o link bytes) s o o' call;
     moments = at_send (Fail link bytes sends.sent.0) (λ i. refl);
   }

@@ -8,7 +8,7 @@ use Rattle.sync_rules.specs.declared.entries.Entry.{Entry}
 use Rattle.sync_rules.specs.declared.entries.Session.{Session}
 use Rattle.sync_rules.specs.Clients.{Meaning}
 use Rattle.sync_rules.specs.Facts.{Facts, after_all, facts, session_at}
-use Rattle.sync_rules.specs.Legal.{Allowed, Legal, suits_nonce}
+use Rattle.sync_rules.specs.Legal.{Allowed, suits_nonce}
 use Rattle.sync_rules.specs.Output.{first_records, nonce_record}
 use Rattle.sync_rules.proofs.SessionLaws.{legal_sessions}
 use Rattle.sync_course.specs.Links.{link_of}

@@ -7,6 +7,8 @@ use Rattle.sync_rules.specs.Legal.{AllSettling}
 use Rattle.outside.specs.Outside.{MakesAtMost, Outside}
 use Rattle.sync_store.specs.Runs.{AddsBatch}
 use Rattle.sync_store.specs.Store.{StoreValue}
+use Rattle.sync_node.specs.declared.fault.Fault.{Fault}
+use Rattle.sync_node.specs.Cuts.{CutBy}
 
 -- the journal with the batch and settling behind it
 pub record AddsOne (clients : Meaning) (j : Journal) (batch : List Entry)
@@ -20,8 +22,9 @@ AddsAtMost clients j batch whole = (whole ≡ j) ⊎ AddsOne clients j batch who
 
 -- Adding a batch came so far: to nothing, or to the batch and some settling behind it, of which it
 -- was broken off in the last one or behind it. Each of these took at most four calls of the disk.
-pub record AddsWithin (clients : Meaning) (batch : List Entry) (s : StoreValue)
+pub record AddsWithin (clients : Meaning) (e : Fault) (batch : List Entry) (s : StoreValue)
     (o o' : Outside) : Type 0 where
   pub more : Journal
   pub adds : AddsBatch clients s.state.facts batch more
   pub calls : MakesAtMost (4 * length more) o o'
+  pub cut : CutBy e s o o'

@@ -2,6 +2,7 @@
 -- behind them, what went out, and what a crash at each moment of them would leave. No place of a
 -- run stands in it.
 use Rattle.std.specs.Prelude.{◌≡◌, ◌⊎◌, ℕ, ◌*◌, ◌≤◌, List, ◌++◌, length}
+use Rattle.frame_journal.specs.Appends.{Appends, BreaksAppends}
 use Rattle.outside.specs.Outside.{MakesAtMost, Moment, Outside}
 use Rattle.outside.specs.Runs.{TellsAll}
 use Rattle.sync_rules.specs.Clients.{Meaning}
@@ -32,7 +33,7 @@ HasSentBy acts o o' =
     TellsAll o → (link : ℕ) → sent_on o'.links link ≡ sent_on o.links link ++ sends_on link acts
 
 -- These acts were done: the disk fits the store with the journal and their batches, each of which
--- took at most four calls of it.
+-- took at most four calls of it; and the calls of it were those of appends to the journal's file.
 pub record Did (clients : Meaning) (acts : List Act) (s s' : StoreValue)
     (o o' : Outside) : Type 0 where
   pub goes : LetsNothingFall o o'
@@ -43,11 +44,14 @@ pub record Did (clients : Meaning) (acts : List Act) (s s' : StoreValue)
   pub fits : (j : Journal) → FitsWith clients s o.files j
       → FitsWith clients s' o'.files (j ++ batches_in acts)
   pub calls : MakesAtMost (4 * length (batches_in acts)) o o'
+  pub file : s'.file ≡ s.file
+  pub appends : Appends s.file s.end s'.end o o'
   pub moments : ComesAtFronts clients acts s o o'
 
 -- These acts were done, and these batches were to be committed next: a call of the disk failed in
 -- one of them or behind them. The files as they read stand for the journal with the batches of the
--- acts; a crash may leave some of the next ones too.
+-- acts; a crash may leave some of the next ones too. The calls of the disk were those of appends to
+-- the journal's file, up to the one that failed.
 pub record DidSome (clients : Meaning) (acts : List Act) (next : Journal) (s s' : StoreValue)
     (o o' : Outside) : Type 0 where
   pub goes : LetsNothingFall o o'
@@ -58,4 +62,5 @@ pub record DidSome (clients : Meaning) (acts : List Act) (next : Journal) (s s' 
   pub reads : (j : Journal) → FitsWith clients s o.files j
       → ReadsAs clients o'.files (j ++ batches_in acts)
   pub calls : MakesAtMost (4 * length (next ++ batches_in acts)) o o'
+  pub breaks : BreaksAppends s.file s.end o o'
   pub moments : ComesAtFronts clients (acts ++ commit_acts next) s o o'

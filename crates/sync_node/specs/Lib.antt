@@ -6,6 +6,7 @@ pub mod Causes
 pub mod Working
 pub mod Sending
 pub mod Starting
+pub mod Cuts
 pub mod Adding
 pub mod Node
 pub mod Keeps

@@ -27,6 +27,7 @@ use Rattle.sync_store.specs.Loading.{LoadsIn}
 use Rattle.sync_store.specs.Moments.{IsBetween}
 use Rattle.sync_store.specs.Ready.{IsReady}
 use Rattle.sync_store.specs.Settling.{HasSettled}
+use Rattle.sync_store.proofs.Runs.{settled_within}
 use Rattle.sync_store.specs.Store.{StoreValue}
 use Rattle.sync_store.specs.declared.fault.LoadFault.{LoadFault}
 use Rattle.sync_store.specs.declared.fault.StoreFault.{StoreFault}
@@ -223,7 +224,8 @@ settle_settles s s' result h h' ready settled calls =
         settling = subst (λ (k : Journal). AllSettling bundle_meaning (facts k) settled.more)
             (holds_fits s j has.whole h holds has.fits) all;
         most = most_more (4 * length settled.more) (0 + 4 * length settled.more) (host_told h)
-            (host_told h') (omega arith) settled.comes.calls.most;
+            (host_told h') (omega arith) (settled_within bundle_meaning s s' result
+            (host_told h) (host_told h') settled);
       };
     }
 

@@ -44,7 +44,8 @@ returns-in-Err-Memory-clause-stopped g c =
 
 pub returns-in-Err-DiskFault-clause-stopped : goal.returns-in-Err-DiskFault-clause-stopped
 returns-in-Err-DiskFault-clause-stopped g c =
-    add_breaks _ c.args.batch _ _ _ _ _ c.requires.ready (c.in-Err-DiskFault.ensures.extended c.requires.ready.still_open)
+    let has = rw c.in-Err-DiskFault.field-0-is at (c.in-Err-DiskFault.ensures.extended c.requires.ready.still_open) in
+    add_breaks _ c.args.batch _ _ _ _ _ c.requires.ready has has.answer.0
     (c.in-Err-DiskFault.ensures.fault (ap (λ e. Err e) c.in-Err-DiskFault.field-0-is))
 
 pub returns-in-Err-Full-clause-stopped : goal.returns-in-Err-Full-clause-stopped

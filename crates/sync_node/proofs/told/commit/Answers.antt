@@ -19,7 +19,7 @@ returns-in-Err-Memory-clause-undone g c =
 pub returns-in-Ok-clause-went : goal.returns-in-Ok-clause-went
 returns-in-Ok-clause-went g c =
     commit_did _ _ _ c.args.batch _ _ _ c.requires.ready c.in-Ok.ensures.run
-    c.in-Ok.ensures.calls.most c.in-Ok.ensures.answer c.in-Ok.ensures.ready
+    c.in-Ok.ensures.calls.most c.in-Ok.ensures.appends c.in-Ok.ensures.answer c.in-Ok.ensures.ready
     (c.in-Ok.ensures.extends c.requires.ready.still_open)
 
 pub returns-in-Err-Memory-clause-stopped : goal.returns-in-Err-Memory-clause-stopped
@@ -34,7 +34,7 @@ pub returns-in-Err-DiskFault-clause-stopped : goal.returns-in-Err-DiskFault-clau
 returns-in-Err-DiskFault-clause-stopped g c =
     let answer = rw c.in-Err-DiskFault.field-0-is at c.in-Err-DiskFault.ensures.answer in
     commit_breaks _ _ _ c.args.batch _ _ c.requires.ready c.in-Err-DiskFault.ensures.run
-    c.in-Err-DiskFault.ensures.calls.most answer
+    c.in-Err-DiskFault.ensures.calls.most c.in-Err-DiskFault.ensures.appends answer
     (c.in-Err-DiskFault.ensures.extends c.requires.ready.still_open)
     (c.in-Err-DiskFault.ensures.fault (ap (λ e. Err e) c.in-Err-DiskFault.field-0-is))
 

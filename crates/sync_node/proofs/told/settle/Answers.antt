@@ -15,6 +15,6 @@ returns-in-Err-Memory-clause-stopped g c =
 
 pub returns-in-Err-DiskFault-clause-stopped : goal.returns-in-Err-DiskFault-clause-stopped
 returns-in-Err-DiskFault-clause-stopped g c =
-    settle_breaks _ _ _ _ _ _ c.requires.ready c.in-Err-DiskFault.ensures.run
-    (c.in-Err-DiskFault.ensures.settled c.requires.ready.still_open)
+    let has = rw c.in-Err-DiskFault.field-0-is at (c.in-Err-DiskFault.ensures.settled c.requires.ready.still_open) in
+    settle_breaks _ _ _ _ _ _ c.requires.ready c.in-Err-DiskFault.ensures.run has has.answer
     (c.in-Err-DiskFault.ensures.fault (ap (λ e. Err e) c.in-Err-DiskFault.field-0-is))
