@@ -1,1 +1,2 @@
 pub mod Audited
+mod Beside

@@ -5,6 +5,7 @@ ghost use Rattle.outside.specs.Files.{File, ReadsSame, Two, read_files};
 ghost use Rattle.outside.specs.Outside.{AnyImage, DiskRun};
 ghost use Rattle.file_standing.specs.Standing.{stands};
 ghost use Rattle.sync_words.specs.Outcomes.{came_to};
+ghost use Rattle.store_commands.specs.Serving.{IsServed, ServesOn};
 ghost use Rattle.store_commands.specs.Show.{PrintsText};
 ghost use Rattle.audit_commands.specs.Audits.{AuditedBy, HasAudited, LeavesSynced, TellsOutcome};
 ghost use Rattle.audit_commands.specs.Texts.{legal_text};
@@ -15,6 +16,7 @@ use outside::{Disk, Sink};
 use std::alloc::Global;
 use store_commands::print_bytes;
 use sync_rules::Clients;
+use sync_store::Store;
 use sync_words::Outcome;
 
 /// Audits the two files of a store, and prints the line of what is reported of their journal. It
@@ -30,6 +32,24 @@ pub fn print_audit<D: Disk, W: Sink, C: Clients>(
 {
     let report = audit_files(alloc, disk, clients)?;
     print_report(alloc, &report, out)
+}
+
+/// The same beside a store that was loaded from these files: it may be used again after each outcome
+/// but `DiskFault`, since its files are as they were.
+pub fn print_audit_loaded<D: Disk, W: Sink, C: Clients>(
+    alloc: Global,
+    store: &Store,
+    disk: &mut D,
+    out: &mut W,
+    clients: &C,
+) -> Result<(), Outcome>
+    ensures audited { HasAudited (C.meaning clients.now) (D.tells disk.old) (D.tells disk.new)
+        (W.tells out.old) (W.tells out.new) (came_to result) }
+    ensures serves { IsServed (C.meaning clients.now) store.now (D.tells disk.old)
+        → ServesOn (C.meaning clients.now) store.now (D.tells disk.new) (came_to result) }
+{
+    let _as_it_is = store;
+    print_audit(alloc, disk, out, clients)
 }
 
 // The report of the files, or what the command comes to without one.

@@ -6,5 +6,5 @@
 mod audit;
 mod lines;
 
-pub use audit::print_audit;
+pub use audit::{print_audit, print_audit_loaded};
 pub use lines::legal_line;

@@ -35,6 +35,7 @@ use Rattle.sync_words.specs.Outcomes.{came_to}
 use Rattle.store_commands.specs.Commit.{SettlesAnew}
 use Rattle.file_standing.specs.Standing.{stands}
 use Rattle.store_commands.specs.Load.{HasFacts, IsLoaded, LoadKeeps, LoadedBy, MayExtend}
+use Rattle.store_commands.specs.Serving.{IsServed, ServesOn}
 use Rattle.store_commands.specs.Show.{LeavesFilesSo}
 use Rattle.store_commands.proofs.Stopped.{input_unread, stops_memory, stops_none, stops_too_much}
 use Rattle.store_commands.proofs.Stopped.{stops_unread}
@@ -367,3 +368,14 @@ taken_read clients contact o o1 o2 input input' out out' s items bytes came run 
           (λ f. running clients (in_errand clients contact bytes)) o o1 o2 out out' s came run.later
           (λ two files. loaded_as_is two o o1 run files (rests two files)) opened tested ran;
     })
+
+-- ---- a store that is served
+
+-- what was not read leaves it so
+pub serves_unread : (clients : Meaning) (s : StoreValue) (o : Outside) (input input' : Stream)
+    (came : Outcome) → IsServed clients s o → IsInput input input' (Err came)
+    → ServesOn clients s o came
+serves_unread clients s o input input' outcome.TooMuch served unread = served
+serves_unread clients s o input input' outcome.ReadFault served unread = served
+serves_unread clients s o input input' outcome.Memory served unread = served.ready
+serves_unread clients s o input input' _ served unread = absurd unread

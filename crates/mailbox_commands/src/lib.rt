@@ -9,5 +9,5 @@ mod sending;
 mod taking;
 mod tests;
 
-pub use sending::{Sending, send_mail};
-pub use taking::{MAX_MAIL, take_mail, taken_line};
+pub use sending::{Sending, send_mail, send_mail_loaded};
+pub use taking::{MAX_MAIL, take_mail, take_mail_loaded, taken_line};

@@ -1,10 +1,14 @@
 // The command `mailbox out CONTACT LATENCY COUNT`.
 ghost use Rattle.std.specs.Prelude.{◌≡◌, ◌++◌, ◌<◌, ◌≤◌, [], IfOk};
+ghost use Rattle.entry_codec.specs.declared.naming.Format.TheVariants as kind;
 ghost use Rattle.sync_rules.specs.Growth.{output_of};
 ghost use Rattle.sync_rules.specs.Steps.{IsSettled};
 ghost use Rattle.sync_store.specs.Ready.{IsReady};
+ghost use Rattle.sync_store.specs.Store.{written_in};
 ghost use Rattle.sync_words.specs.Outcomes.{came_to};
+ghost use Rattle.store_commands.specs.Commit.{StoreStaysReady};
 ghost use Rattle.store_commands.specs.Load.{MayExtend};
+ghost use Rattle.store_commands.specs.Serving.{IsServed, ServesOn, StaysSettled, WasLoaded};
 ghost use Rattle.mailbox_commands.specs.Tests.{MayBeginWith};
 ghost use Rattle.store_commands.specs.Running.{DoesErrand, RunsErrand};
 ghost use Rattle.mailbox_commands.specs.Sending.{HasSentMail, TellsSent, out_errand};
@@ -46,38 +50,61 @@ pub fn send_mail<H: Host, W: Sink, C: Clients>(
     ensures { HasSentMail (C.meaning clients.now) asked (H.tells host.old) (H.tells host.new)
         (W.tells out.old) (W.tells out.new) (came_to result) }
 {
-    let store = load_store(alloc, hasher, host, clients)?;
-    if let Some(why) = refusal(&store, asked.contact) {
+    let mut store = load_store(alloc, hasher, host, clients)?;
+    send_mail_loaded(alloc, &mut store, asked, host, out, clients)
+}
+
+/// The same of a store that was loaded. After each outcome but `DiskFault` it may be used again;
+/// after `Memory` it is to be settled first.
+pub fn send_mail_loaded<H: Host, W: Sink, C: Clients>(
+    alloc: Global,
+    store: &mut Store,
+    asked: Sending,
+    host: &mut H,
+    out: &mut W,
+    clients: &C,
+) -> Result<(), Outcome>
+    requires ready { MayExtend (C.meaning clients.now) store.old (H.tells host.old).files }
+    requires latency { 1 ≤ asked.latency }
+    ensures sent { (start : H)
+        → WasLoaded (C.meaning clients.now) store.old (H.tells start) (H.tells host.old)
+        → HasSentMail (C.meaning clients.now) asked (H.tells start) (H.tells host.new) (W.tells out.old)
+        (W.tells out.new) (came_to result) }
+    ensures serves { IsServed (C.meaning clients.now) store.old (H.tells host.old)
+        → ServesOn (C.meaning clients.now) store.new (H.tells host.new) (came_to result) }
+{
+    if let Some(why) = refusal(store, asked.contact) {
         return Err(Outcome::Refused(why));
     }
     let now = host.now();
-    send_loaded(alloc, store, asked, now, host, out, clients)
+    send_at(alloc, store, asked, now, host, out, clients)
 }
 
 // Migrates, settles, commits what is due at this time, and writes its bytes.
-fn send_loaded<D: Disk, W: Sink, C: Clients>(
+fn send_at<D: Disk, W: Sink, C: Clients>(
     alloc: Global,
-    store: Store,
+    store: &mut Store,
     asked: Sending,
     now: u64,
     disk: &mut D,
     out: &mut W,
     clients: &C,
 ) -> Result<(), Outcome>
-    requires ready { MayExtend (C.meaning clients.now) store (D.tells disk.old).files }
-    requires begins { MayBeginWith store.state.facts asked.contact }
+    requires ready { MayExtend (C.meaning clients.now) store.old (D.tells disk.old).files }
+    requires begins { MayBeginWith store.old.state.facts asked.contact }
     requires latency { 1 ≤ asked.latency }
-    ensures { RunsErrand (C.meaning clients.now) (out_errand (C.meaning clients.now) asked now)
-        store (D.tells disk.old) (D.tells disk.new) (W.tells out.old) (W.tells out.new)
+    ensures ran { RunsErrand (C.meaning clients.now) (out_errand (C.meaning clients.now) asked now)
+        store.old (D.tells disk.old) (D.tells disk.new) (W.tells out.old) (W.tells out.new)
         (came_to result) }
+    ensures serves { written_in store.old ≡ kind.Short
+        → ServesOn (C.meaning clients.now) store.new (D.tells disk.new) (came_to result) }
 {
     outputs_are_sent();
-    let mut store = store;
-    migrate_and_settle(&mut store, disk, clients)?;
+    migrate_and_settle(store, disk, clients)?;
     // What every store keeps.
     let _end = store.end();
     let mut bytes = Vec::new(alloc);
-    send_due(alloc, &mut store, asked, now, disk, clients, &mut bytes)?;
+    send_due(alloc, store, asked, now, disk, clients, &mut bytes)?;
     print_bytes(bytes.as_slice(), out)
 }
 
@@ -95,8 +122,11 @@ fn send_due<D: Disk, C: Clients>(
     requires settled { IsSettled (C.meaning clients.now) store.old.state.facts }
     requires begins { MayBeginWith store.old.state.facts asked.contact }
     requires latency { 1 ≤ asked.latency }
-    ensures { TellsSent (C.meaning clients.now) asked now store.old store.new
+    ensures sent { TellsSent (C.meaning clients.now) asked now store.old store.new
         (D.tells disk.old) (D.tells disk.new) to.old.items to.new.items result }
+    ensures stays { StoreStaysReady (C.meaning clients.now) store.new (D.tells disk.new).files
+        result }
+    ensures settled { StaysSettled (C.meaning clients.now) store.new result }
 {
     match write_box(
         alloc,

@@ -1,12 +1,16 @@
 // The command `mailbox in CONTACT`.
 ghost use Rattle.std.specs.Prelude.{◌≡◌, ◌++◌, ◌<◌, IfOk, MatchOption, OnOk};
 ghost use Rattle.std.specs.String.{string_bytes};
+ghost use Rattle.entry_codec.specs.declared.naming.Format.TheVariants as kind;
 ghost use Rattle.sync_rules.specs.declared.limits.TheConstants.{MAX_SESSIONS};
 ghost use Rattle.sync_rules.specs.Steps.{IsSettled};
 ghost use Rattle.sync_store.specs.Ready.{IsReady};
+ghost use Rattle.sync_store.specs.Store.{written_in};
 ghost use Rattle.sync_words.specs.Outcomes.{came_to};
 ghost use Rattle.mailbox_core.specs.Files.{box_ending, box_records};
+ghost use Rattle.store_commands.specs.Commit.{StoreStaysReady};
 ghost use Rattle.store_commands.specs.Load.{MayExtend};
+ghost use Rattle.store_commands.specs.Serving.{IsServed, ServesOn, StaysSettled, WasLoaded};
 ghost use Rattle.mailbox_commands.specs.Tests.{MayBeginWith};
 ghost use Rattle.store_commands.specs.Running.{DoesErrand, PrintedSo, PrintsOut, RunsErrand, ended_as};
 ghost use Rattle.mailbox_commands.specs.Taking.{HasTakenMail, IsInput, TellsEnd, in_errand, outcome_at};
@@ -41,12 +45,35 @@ pub fn take_mail<D: Disk, S: Source, W: Sink, C: Clients>(
         (S.tells input.old) (S.tells input.new) (W.tells out.old) (W.tells out.new)
         (came_to result) }
 {
-    let store = load_store(alloc, hasher, disk, clients)?;
-    if let Some(why) = refusal(&store, contact) {
+    let mut store = load_store(alloc, hasher, disk, clients)?;
+    take_mail_loaded(alloc, &mut store, contact, disk, input, out, clients)
+}
+
+/// The same of a store that was loaded. After each outcome but `DiskFault` it may be used again;
+/// after `Memory` it is to be settled first.
+pub fn take_mail_loaded<D: Disk, S: Source, W: Sink, C: Clients>(
+    alloc: Global,
+    store: &mut Store,
+    contact: u8,
+    disk: &mut D,
+    input: &mut S,
+    out: &mut W,
+    clients: &C,
+) -> Result<(), Outcome>
+    requires ready { MayExtend (C.meaning clients.now) store.old (D.tells disk.old).files }
+    ensures taken { (start : D)
+        → WasLoaded (C.meaning clients.now) store.old (D.tells start) (D.tells disk.old)
+        → HasTakenMail (C.meaning clients.now) contact (D.tells start) (D.tells disk.new)
+        (S.tells input.old) (S.tells input.new) (W.tells out.old) (W.tells out.new)
+        (came_to result) }
+    ensures serves { IsServed (C.meaning clients.now) store.old (D.tells disk.old)
+        → ServesOn (C.meaning clients.now) store.new (D.tells disk.new) (came_to result) }
+{
+    if let Some(why) = refusal(store, contact) {
         return Err(Outcome::Refused(why));
     }
     let bytes = read_mail(alloc, input)?;
-    take_loaded(alloc, store, contact, bytes.as_slice(), disk, out, clients)
+    take_bytes(alloc, store, contact, bytes.as_slice(), disk, out, clients)
 }
 
 // Reads the input whole.
@@ -63,26 +90,27 @@ fn read_mail<S: Source>(alloc: Global, input: &mut S) -> Result<Vec<u8>, Outcome
 }
 
 // Migrates, settles, takes the records of a file, and prints their number.
-fn take_loaded<D: Disk, W: Sink, C: Clients>(
+fn take_bytes<D: Disk, W: Sink, C: Clients>(
     alloc: Global,
-    store: Store,
+    store: &mut Store,
     contact: u8,
     bytes: &[u8],
     disk: &mut D,
     out: &mut W,
     clients: &C,
 ) -> Result<(), Outcome>
-    requires ready { MayExtend (C.meaning clients.now) store (D.tells disk.old).files }
-    requires begins { MayBeginWith store.state.facts contact }
-    ensures { RunsErrand (C.meaning clients.now) (in_errand (C.meaning clients.now) contact
-        bytes.now) store (D.tells disk.old) (D.tells disk.new) (W.tells out.old) (W.tells out.new)
-        (came_to result) }
+    requires ready { MayExtend (C.meaning clients.now) store.old (D.tells disk.old).files }
+    requires begins { MayBeginWith store.old.state.facts contact }
+    ensures ran { RunsErrand (C.meaning clients.now) (in_errand (C.meaning clients.now) contact
+        bytes.now) store.old (D.tells disk.old) (D.tells disk.new) (W.tells out.old)
+        (W.tells out.new) (came_to result) }
+    ensures serves { written_in store.old ≡ kind.Short
+        → ServesOn (C.meaning clients.now) store.new (D.tells disk.new) (came_to result) }
 {
-    let mut store = store;
-    migrate_and_settle(&mut store, disk, clients)?;
+    migrate_and_settle(store, disk, clients)?;
     // What every store keeps.
     let _end = store.end();
-    let end = take_records(alloc, &mut store, contact, bytes, disk, clients)?;
+    let end = take_records(alloc, store, contact, bytes, disk, clients)?;
     print_end(alloc, end, out)
 }
 
@@ -101,6 +129,9 @@ fn take_records<D: Disk, C: Clients>(
     ensures does { DoesErrand (C.meaning clients.now) (in_errand (C.meaning clients.now) contact
         bytes.now) store.old store.new (D.tells disk.old) (D.tells disk.new) (ended_as result) }
     ensures end { IfOk result (TellsEnd bytes.now) }
+    ensures stays { StoreStaysReady (C.meaning clients.now) store.new (D.tells disk.new).files
+        (ended_as result) }
+    ensures settled { StaysSettled (C.meaning clients.now) store.new (ended_as result) }
 {
     match read_box(alloc, store, disk, clients, contact, bytes) {
         Ok(end) => Ok(end),

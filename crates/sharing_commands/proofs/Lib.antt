@@ -6,3 +6,4 @@ mod Targets
 mod Wholes
 mod LastLevels
 mod WellSaid
+mod Standing

@@ -1,8 +1,8 @@
 -- Words in a `sharing` group of a legal journal: what their client says of them, and which messages
 -- they rest on.
-use Rattle.std.proofs.Common.{◌≡◌, ◌≢◌, ◌⊎◌, ℕ, Bool, true, false, cond, ◌&&◌, List, [], ◌∷◌, ◌++◌}
+use Rattle.std.proofs.Common.{◌≡◌, ◌≢◌, ◌⊎◌, ℕ, Bool, true, false, cond, List, [], ◌∷◌, ◌++◌}
 use Rattle.std.proofs.Common.{length, replicate, refl, sym, ap, ◌∙◌, subst, inl, inr, Option, None}
-use Rattle.std.proofs.Common.{Some, Result, Ok, Err}
+use Rattle.std.proofs.Common.{Some, Ok, Err}
 use Rattle.std.specs.Prelude.{if◌then◌else◌, is_some}
 use Rattle.std.specs.List.{list_all}
 use Rattle.std.proofs.lemmas.Bool.{and_from, and_parts, cases_Bool, or_cases, or_left, or_right}
@@ -25,14 +25,14 @@ use Rattle.sync_rules.specs.Steps.{is_beside, is_served, verdict_by, verdict_for
 use Rattle.sync_rules.proofs.ConsistencyLaws.{legal_consistent}
 use Rattle.sync_rules.proofs.Elements.{same_id-is, same_id_itself}
 use Rattle.sync_rules.proofs.ServedLaws.{delivers_in_order}
-use Rattle.sync_store.specs.Refusals.{judged_answer, post_answer}
+use Rattle.sync_store.specs.Refusals.{judged_answer}
 use Rattle.entry_codec.specs.Spelling.{IsDef}
 use Rattle.client_basic.specs.Bodies.{bundle_kind, previous_of}
-use Rattle.client_sharing.specs.Bodies.{SayingsAreSpelled, is_sharing, saying_body, saying_of}
+use Rattle.client_sharing.specs.Bodies.{SayingsAreSpelled, is_sharing, saying_of}
 use Rattle.client_sharing.specs.Bodies.{saying_verdict, sharing_meaning, sharing_name}
 use Rattle.client_sharing.specs.declared.bodies.Saying.{Saying}
 use Rattle.store_commands.specs.Plans.{EntryPlan, adds, planned, refuses}
-use Rattle.sharing_commands.specs.SayingLaws.{IsSaidWell, IsWord, LegalSpeaksWell, SpeaksWell}
+use Rattle.sharing_commands.specs.SayingLaws.{IsSaidWell, LegalSpeaksWell}
 use Rattle.sharing_commands.specs.Sayings.{is_own, last_own, message_said, own_or, previous_own}
 use Rattle.sharing_commands.specs.Sayings.{say_by, say_plan, saying_in, sharing_test}
 use Rattle.sharing_commands.specs.declared.saying.Speech.{Speech}

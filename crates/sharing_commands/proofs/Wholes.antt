@@ -32,7 +32,7 @@ use Rattle.sharing_commands.specs.Agreement.{agree_test, agreed_batches, agreed_
 
 -- ---- what the targets ask for
 
-front_of : (s : StoreValue) (all front : List (List Entry)) (r : Result (Unit {0}) Outcome)
+pub front_of : (s : StoreValue) (all front : List (List Entry)) (r : Result (Unit {0}) Outcome)
     → AddsSo s all front r → IsFront front all
 front_of s all front (Ok u) so = record { rest = []; whole = sym so.1 ∙ sym (append-nil front) }
 front_of s all front (Err outcome.Full) so =

@@ -50,3 +50,9 @@ pub record KnowsContact (clients : Meaning) (s : StoreValue) (o : Outside)
   pub is_store : IsStore s
   pub settled : IsSettled clients s.state.facts
   pub known : contact < s.state.facts.contacts
+
+-- what stands of it behind batches that leave a settled journal settled, by the answer: all of it,
+-- but where the disk failed
+abbrev pub StaysKnown : Meaning → StoreValue → Outside → ℕ → Result (Unit {0}) Outcome → Type 0
+StaysKnown clients s o contact (Err outcome.DiskFault) = Unit {0}
+StaysKnown clients s o contact _ = KnowsContact clients s o contact

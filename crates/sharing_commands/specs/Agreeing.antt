@@ -1,10 +1,9 @@
 -- What `agree` does: it migrates the journal and settles it, adds what the targets ask for, each
 -- entry a batch of its own, and prints a line for each group.
-use Rattle.std.specs.Prelude.{◌≡◌, ℕ, List, [], ◌∷◌, ◌++◌}
+use Rattle.std.specs.Prelude.{◌≡◌, ℕ, [], ◌∷◌, ◌++◌}
 use Rattle.outside.specs.Outside.{Outside}
 use Rattle.outside.specs.Runs.{IsFront}
 use Rattle.outside.specs.Streams.{Stream}
-use Rattle.sync_rules.specs.declared.entries.Entry.{Entry}
 use Rattle.sync_rules.specs.Clients.{Meaning}
 use Rattle.sync_rules.specs.Facts.{Id, facts}
 use Rattle.sync_words.specs.declared.outcome.Outcome.{Outcome}

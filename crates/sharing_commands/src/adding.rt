@@ -8,8 +8,8 @@ ghost use Rattle.sync_rules.specs.declared.entries.Entry.TheVariants as entry;
 ghost use Rattle.sync_store.specs.Ready.{IsReady};
 ghost use Rattle.sync_store.specs.Refusals.{group_answer};
 ghost use Rattle.sync_store.specs.Store.{IsStore};
-ghost use Rattle.store_commands.specs.Commit.{ExtendsBy};
-ghost use Rattle.sharing_commands.specs.Adding.{AddsFront, KnowsContact};
+ghost use Rattle.store_commands.specs.Commit.{ExtendsBy, StoreStaysReady};
+ghost use Rattle.sharing_commands.specs.Adding.{AddsFront, KnowsContact, StaysKnown};
 
 use outside::Disk;
 use std::alloc::Global;
@@ -34,8 +34,8 @@ fn commit<D: Disk, C: Clients>(
     ensures adds { AddsFront (C.meaning clients.now) store.old store.new (D.tells disk.old)
         (D.tells disk.new) (batch ∷ []) result }
     ensures by { ExtendsBy (D.tells disk.old) (D.tells disk.new) result }
-    ensures ready { OnOk result (IsReady (C.meaning clients.now) store.new
-        (D.tells disk.new).files) }
+    ensures stays { StoreStaysReady (C.meaning clients.now) store.new (D.tells disk.new).files
+        result }
     ensures is_store { IsStore store.new }
 {
     images_stand();
@@ -63,8 +63,8 @@ pub(crate) fn set_level<D: Disk, C: Clients>(
     ensures adds { AddsFront (C.meaning clients.now) store.old store.new (D.tells disk.old)
         (D.tells disk.new) ((entry.Level contact group.now level ∷ []) ∷ []) result }
     ensures by { ExtendsBy (D.tells disk.old) (D.tells disk.new) result }
-    ensures stands { OnOk result (KnowsContact (C.meaning clients.now) store.new
-        (D.tells disk.new) contact) }
+    ensures stands { StaysKnown (C.meaning clients.now) store.new (D.tells disk.new) contact
+        result }
 {
     images_stand();
     steps();
@@ -87,8 +87,8 @@ pub(crate) fn add_group<D: Disk, C: Clients>(
     ensures adds { AddsFront (C.meaning clients.now) store.old store.new (D.tells disk.old)
         (D.tells disk.new) ((entry.Group def.now ∷ []) ∷ []) result }
     ensures by { ExtendsBy (D.tells disk.old) (D.tells disk.new) result }
-    ensures stands { OnOk result (KnowsContact (C.meaning clients.now) store.new
-        (D.tells disk.new) contact) }
+    ensures stands { StaysKnown (C.meaning clients.now) store.new (D.tells disk.new) contact
+        result }
     ensures known { OnOk result (is_some (group_at store.new.state.facts.groups
         (group_id_of def.now)) ≡ true) }
 {

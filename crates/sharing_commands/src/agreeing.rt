@@ -1,13 +1,13 @@
 // The command `agree CONTACT GROUP`.
 ghost use Rattle.std.specs.Prelude.{◌≡◌, ◌++◌, ◌<◌, OnOk};
 ghost use Rattle.std.specs.String.{string_bytes};
-ghost use Rattle.sync_rules.specs.Steps.{IsSettled};
 ghost use Rattle.sync_words.specs.Outcomes.{came_to};
 ghost use Rattle.store_commands.specs.Commit.{ExtendsBy};
 ghost use Rattle.store_commands.specs.Load.{MayExtend};
 ghost use Rattle.store_commands.specs.Running.{RunsErrand};
+ghost use Rattle.store_commands.specs.Serving.{IsServed, ServesOn, WasLoaded};
 ghost use Rattle.store_commands.specs.Show.{PrintsText};
-ghost use Rattle.sharing_commands.specs.Adding.{AddsFront, KnowsContact};
+ghost use Rattle.sharing_commands.specs.Adding.{AddsFront, KnowsContact, StaysKnown};
 ghost use Rattle.sharing_commands.specs.Agreeing.{HasAgreed, agreement};
 ghost use Rattle.sharing_commands.specs.Agreement.{agree_test, agreed_batches, agreed_text};
 
@@ -40,11 +40,33 @@ pub fn agree<D: Disk, W: Sink, C: Clients>(
     ensures { HasAgreed (C.meaning clients.now) contact group.now (D.tells disk.old)
         (D.tells disk.new) (W.tells out.old) (W.tells out.new) (came_to result) }
 {
-    let store = load_store(alloc, hasher, disk, clients)?;
-    if let Some(why) = agree_refusal(&store, contact, group) {
+    let mut store = load_store(alloc, hasher, disk, clients)?;
+    agree_loaded(alloc, &mut store, contact, group, disk, out, clients)
+}
+
+/// The same of a store that was loaded. After each outcome but `DiskFault` it may be used again;
+/// after `Memory` it is to be settled first.
+pub fn agree_loaded<D: Disk, W: Sink, C: Clients>(
+    alloc: Global,
+    store: &mut Store,
+    contact: u8,
+    group: &GroupId,
+    disk: &mut D,
+    out: &mut W,
+    clients: &C,
+) -> Result<(), Outcome>
+    requires ready { MayExtend (C.meaning clients.now) store.old (D.tells disk.old).files }
+    ensures agreed { (start : D)
+        → WasLoaded (C.meaning clients.now) store.old (D.tells start) (D.tells disk.old)
+        → HasAgreed (C.meaning clients.now) contact group.now (D.tells start) (D.tells disk.new)
+        (W.tells out.old) (W.tells out.new) (came_to result) }
+    ensures serves { IsServed (C.meaning clients.now) store.old (D.tells disk.old)
+        → ServesOn (C.meaning clients.now) store.new (D.tells disk.new) (came_to result) }
+{
+    if let Some(why) = agree_refusal(store, contact, group) {
         return Err(Outcome::Refused(why));
     }
-    agree_loaded(alloc, store, contact, group, disk, out, clients)
+    set_agreed(alloc, store, contact, group, disk, out, clients)
 }
 
 // The first test that fails.
@@ -59,27 +81,28 @@ fn agree_refusal(store: &Store, contact: u8, group: &GroupId) -> Option<Refused>
 }
 
 // Migrates, settles, adds what the targets ask for, and prints their lines.
-fn agree_loaded<D: Disk, W: Sink, C: Clients>(
+fn set_agreed<D: Disk, W: Sink, C: Clients>(
     alloc: Global,
-    store: Store,
+    store: &mut Store,
     contact: u8,
     group: &GroupId,
     disk: &mut D,
     out: &mut W,
     clients: &C,
 ) -> Result<(), Outcome>
-    requires ready { MayExtend (C.meaning clients.now) store (D.tells disk.old).files }
-    requires known { contact < store.state.facts.contacts }
-    ensures { RunsErrand (C.meaning clients.now) (agreement (C.meaning clients.now) contact
-        group.now) store (D.tells disk.old) (D.tells disk.new) (W.tells out.old)
+    requires ready { MayExtend (C.meaning clients.now) store.old (D.tells disk.old).files }
+    requires known { contact < store.old.state.facts.contacts }
+    ensures ran { RunsErrand (C.meaning clients.now) (agreement (C.meaning clients.now) contact
+        group.now) store.old (D.tells disk.old) (D.tells disk.new) (W.tells out.old)
         (W.tells out.new) (came_to result) }
+    ensures serves { IsServed (C.meaning clients.now) store.old (D.tells disk.old)
+        → ServesOn (C.meaning clients.now) store.new (D.tells disk.new) (came_to result) }
 {
-    let mut store = store;
-    migrate_and_settle(&mut store, disk, clients)?;
+    migrate_and_settle(store, disk, clients)?;
     // What every store keeps.
     let _end = store.end();
     let mut text = String::new(alloc);
-    add_agreed(alloc, &mut store, contact, group, disk, clients, &mut text)?;
+    add_agreed(alloc, store, contact, group, disk, clients, &mut text)?;
     print_text(text.as_str(), out)
 }
 
@@ -98,7 +121,8 @@ fn add_agreed<D: Disk, C: Clients>(
         (D.tells disk.new) (agreed_batches (C.meaning clients.now) contact group.now
         store.old.state.facts) result }
     ensures by { ExtendsBy (D.tells disk.old) (D.tells disk.new) result }
-    ensures settled { OnOk result (IsSettled (C.meaning clients.now) store.new.state.facts) }
+    ensures stands { StaysKnown (C.meaning clients.now) store.new (D.tells disk.new) contact
+        result }
     ensures text { OnOk result (string_bytes to.new ≡ string_bytes to.old ++ agreed_text
         (C.meaning clients.now) contact group.now store.old.state.facts) }
 {

@@ -17,6 +17,6 @@ pub mod saying_laws;
 mod setting;
 mod words;
 
-pub use agreeing::agree;
+pub use agreeing::{agree, agree_loaded};
 pub use deed::skipped_group_line;
-pub use saying::{Speech, say};
+pub use saying::{Speech, say, say_loaded};

@@ -3,7 +3,9 @@ ghost use Rattle.std.specs.Prelude.{◌≡◌, ◌≤◌, IfOk, MatchResult, Non
 ghost use Rattle.sync_rules.specs.Facts.{group_at};
 ghost use Rattle.sync_words.specs.Outcomes.{came_to};
 ghost use Rattle.store_commands.specs.Entries.{HasAdded};
+ghost use Rattle.store_commands.specs.Load.{MayExtend};
 ghost use Rattle.store_commands.specs.Post.{IsPlanOfPost};
+ghost use Rattle.store_commands.specs.Serving.{IsServed, ServesOn, WasLoaded};
 ghost use Rattle.sharing_commands.specs.Sayings.{message_said, say_plan, sharing_test};
 
 use crate::previous::previous_own;
@@ -44,8 +46,31 @@ pub fn say<D: Disk, W: Sink, C: Clients>(
         Settling.BeforeAndAfter (D.tells disk.old) (D.tells disk.new) (W.tells out.old)
         (W.tells out.new) (came_to result) }
 {
-    let store = load_store(alloc, hasher, disk, clients)?;
-    let post = plan_saying(alloc, &store, clients, speech)?;
+    let mut store = load_store(alloc, hasher, disk, clients)?;
+    say_loaded(alloc, &mut store, speech, disk, out, clients)
+}
+
+/// The same of a store that was loaded. After each outcome but `DiskFault` it may be used again;
+/// after `Memory` it is to be settled first.
+pub fn say_loaded<D: Disk, W: Sink, C: Clients>(
+    alloc: Global,
+    store: &mut Store,
+    speech: Speech,
+    disk: &mut D,
+    out: &mut W,
+    clients: &C,
+) -> Result<(), Outcome>
+    requires ready { MayExtend (C.meaning clients.now) store.old (D.tells disk.old).files }
+    requires timestamp { speech.timestamp ≤ MAX_TIMESTAMP }
+    ensures said { (start : D)
+        → WasLoaded (C.meaning clients.now) store.old (D.tells start) (D.tells disk.old)
+        → HasAdded (C.meaning clients.now) (say_plan (C.meaning clients.now) speech)
+        Settling.BeforeAndAfter (D.tells start) (D.tells disk.new) (W.tells out.old) (W.tells out.new)
+        (came_to result) }
+    ensures serves { IsServed (C.meaning clients.now) store.old (D.tells disk.old)
+        → ServesOn (C.meaning clients.now) store.new (D.tells disk.new) (came_to result) }
+{
+    let post = plan_saying(alloc, store, clients, speech)?;
     let PlannedPost { message, id } = post;
     add_entry(
         alloc,

@@ -2,10 +2,9 @@
 ghost use Rattle.std.specs.Prelude.{◌≡◌, ◌∷◌, [], ◌++◌, true, is_ok, OnOk};
 ghost use Rattle.std.specs.String.{string_bytes};
 ghost use Rattle.sync_rules.specs.declared.entries.Entry.TheVariants as entry;
-ghost use Rattle.sync_rules.specs.Steps.{IsSettled};
 ghost use Rattle.sync_store.specs.Refusals.{group_answer};
 ghost use Rattle.store_commands.specs.Commit.{ExtendsBy};
-ghost use Rattle.sharing_commands.specs.Adding.{AddsFront, KnowsContact};
+ghost use Rattle.sharing_commands.specs.Adding.{AddsFront, KnowsContact, StaysKnown};
 ghost use Rattle.sharing_commands.specs.Deeds.{all_batches, all_text, batches_for, deed_batches};
 ghost use Rattle.sharing_commands.specs.Deeds.{deed_of, target_id, text_for};
 
@@ -35,7 +34,8 @@ pub(crate) fn set_all<D: Disk, C: Clients>(
         (D.tells disk.new) (all_batches (C.meaning clients.now) contact store.old.state.facts
         targets.now) result }
     ensures by { ExtendsBy (D.tells disk.old) (D.tells disk.new) result }
-    ensures settled { OnOk result (IsSettled (C.meaning clients.now) store.new.state.facts) }
+    ensures stands { StaysKnown (C.meaning clients.now) store.new (D.tells disk.new) contact
+        result }
     ensures text { OnOk result (string_bytes to.new ≡ string_bytes to.old ++ all_text
         (C.meaning clients.now) contact store.old.state.facts targets.now) }
 {
@@ -61,8 +61,8 @@ fn set_target<D: Disk, C: Clients>(
         (D.tells disk.new) (batches_for (C.meaning clients.now) contact store.old.state.facts
         target.now) result }
     ensures by { ExtendsBy (D.tells disk.old) (D.tells disk.new) result }
-    ensures stands { OnOk result (KnowsContact (C.meaning clients.now) store.new
-        (D.tells disk.new) contact) }
+    ensures stands { StaysKnown (C.meaning clients.now) store.new (D.tells disk.new) contact
+        result }
     ensures text { OnOk result (string_bytes to.new ≡ string_bytes to.old ++ text_for
         (C.meaning clients.now) contact store.old.state.facts target.now) }
 {
@@ -91,8 +91,8 @@ fn do_deed<D: Disk, C: Clients>(
     ensures adds { AddsFront (C.meaning clients.now) store.old store.new (D.tells disk.old)
         (D.tells disk.new) (deed_batches contact target.now deed) result }
     ensures by { ExtendsBy (D.tells disk.old) (D.tells disk.new) result }
-    ensures stands { OnOk result (KnowsContact (C.meaning clients.now) store.new
-        (D.tells disk.new) contact) }
+    ensures stands { StaysKnown (C.meaning clients.now) store.new (D.tells disk.new) contact
+        result }
 {
     images_stand();
     match deed {
@@ -122,8 +122,8 @@ fn add_target<D: Disk, C: Clients>(
         (D.tells disk.new) ((entry.Group target.now.def ∷ []) ∷ (entry.Level contact group.now
         target.now.level ∷ []) ∷ []) result }
     ensures by { ExtendsBy (D.tells disk.old) (D.tells disk.new) result }
-    ensures stands { OnOk result (KnowsContact (C.meaning clients.now) store.new
-        (D.tells disk.new) contact) }
+    ensures stands { StaysKnown (C.meaning clients.now) store.new (D.tells disk.new) contact
+        result }
 {
     add_group(alloc, store, contact, &target.def, disk, clients)?;
     set_level(alloc, store, contact, group, target.level, disk, clients)

@@ -9,6 +9,7 @@ pub mod Follow
 pub mod EntryLemmas
 pub mod Commits
 pub mod Loads
+pub mod Serving
 pub mod Posts
 pub mod Begins
 pub mod Stood

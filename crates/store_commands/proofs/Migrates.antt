@@ -37,12 +37,23 @@ same_limit s s' (Err fault.Full) so = ap (λ (v : StoreValue). v.limit) so.1
 same_limit s s' (Err fault.Memory) so = ap (λ (v : StoreValue). v.limit) so.1
 same_limit s s' (Err fault.DiskFault) so = ap (λ (v : StoreValue). v.limit) so.1
 
+-- a journal in format 2 stays in it
+stays_short : (s s' : StoreValue) (result : Result (Unit {0}) StoreFault)
+    → AnswersMigrate s s' result → written_in s ≡ kind.Short → written_in s' ≡ kind.Short
+stays_short s s' (Ok u) (inl stays) short = ap written_in stays.1 ∙ short
+stays_short s s' (Ok u) (inr moves) short = ap format_meant moves.format
+stays_short s s' (Err fault.Closed) so short = absurd so
+stays_short s s' (Err fault.Full) so short = ap written_in so.1 ∙ short
+stays_short s s' (Err fault.Memory) so short = ap written_in so.1 ∙ short
+stays_short s s' (Err fault.DiskFault) so short = ap written_in so.1 ∙ short
+
 pub comes_migrated : (clients : Meaning) (s s' : StoreValue) (result : Result (Unit {0}) StoreFault)
     (o o' : Outside) → HasMigrated clients s s' result o o' → ComesAnew clients s s' o o' []
 comes_migrated clients s s' result o o' has = record {
   settling = tt;
   facts = same_facts s s' result has.answer;
   limit = same_limit s s' result has.answer;
+  short = stays_short s s' result has.answer;
   leads = has.leads;
 }
 
@@ -81,6 +92,7 @@ comes_settled clients s s1 s2 o o1 o2 r1 r2 still run migrates settles = record 
   facts =
       settles.comes.facts ∙ ap (λ (f : Facts). after_batches f settles.more) migrates.comes.facts;
   limit = settles.comes.limit ∙ migrates.comes.limit;
+  short = λ short. ap format_meant settles.comes.format ∙ migrates.comes.short short;
   leads =
       leads_both clients s s1 s2 o o1 o2 [] settles.more still run migrates.comes.leads
       settles.comes.leads;

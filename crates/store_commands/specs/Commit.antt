@@ -201,14 +201,15 @@ StoreStaysReady clients s files (Err outcome.DiskFault) = Unit {0}
 StoreStaysReady clients s files _ = IsReady clients s files
 
 -- A store came by these settling batches to this one, in the file that it was in or in the other.
--- Its facts are those after them; at each moment the files stand for the journal with a front of
--- them, and in the end, unless the store is closed, the disk fits it with the journal and all of
--- them.
+-- Its facts are those after them, and a journal in format 2 stays in it; at each moment the files
+-- stand for the journal with a front of them, and in the end, unless the store is closed, the disk
+-- fits it with the journal and all of them.
 pub record ComesAnew (clients : Meaning) (s s' : StoreValue) (old new : Outside)
     (more : List (List Entry)) : Type 0 where
   pub settling : AllSettling clients s.state.facts more
   pub facts : s'.state.facts ≡ after_batches s.state.facts more
   pub limit : s'.limit ≡ s.limit
+  pub short : written_in s ≡ kind.Short → written_in s' ≡ kind.Short
   pub leads : LeadsBy clients s s' old new more
 
 -- a store was migrated as far as the answer says: at each moment the files stand for the same
@@ -261,6 +262,7 @@ pub record AddsAs (clients : Meaning) (settling : Settling) (s s' : StoreValue) 
   pub file : s'.file ≡ s.file
   pub format : s'.format ≡ s.format
   pub generation : s'.generation ≡ s.generation
+  pub limit : s'.limit ≡ s.limit
   pub leads : LeadsBy clients s s' old new more
   pub answer : AddedSo clients settling s s' batch more result
 

@@ -13,3 +13,4 @@ pub mod Entries
 pub mod Init
 pub mod Post
 pub mod Compact
+pub mod Serving

@@ -1,17 +1,22 @@
 // A batch that is added to a store: before it the journal is migrated, where it is of format 1, and
 // settled. The store's answers are outcomes here; a store that is ready is not closed.
 ghost use Rattle.std.specs.Prelude.{◌≡◌, List, Some, false, IsErrOf, OnOk};
+ghost use Rattle.outside.specs.declared.limits.TheConstants.{MAX_JOURNAL};
 ghost use Rattle.outside.specs.Files.{Two, File};
 ghost use Rattle.outside.specs.Outside.{DiskRun};
 ghost use Rattle.sync_rules.specs.declared.entries.Entry.{Entry};
 ghost use Rattle.sync_rules.specs.Allows.{is_account_kind, is_settling_kind};
 ghost use Rattle.sync_rules.specs.Legal.{Allowed};
+ghost use Rattle.sync_rules.specs.Steps.{IsSettled};
 ghost use Rattle.session_core.specs.Known.{IsOfAll};
 ghost use Rattle.sync_store.specs.Fitting.{FitsFiles};
 ghost use Rattle.sync_store.specs.Ready.{IsReady};
+ghost use Rattle.sync_words.specs.Outcomes.{came_to};
 ghost use Rattle.store_commands.specs.Commit.{AddsAs, ExtendsBy, ExtendsTold, MayFollow};
 ghost use Rattle.store_commands.specs.Commit.{MigratesAs, SettlesAnew, SettlesAs, StoreStaysReady};
 ghost use Rattle.store_commands.specs.Load.{MayExtend};
+ghost use Rattle.store_commands.specs.Serving.{IsReadyToServe, IsServed, KeepsSettled, ServesOn};
+ghost use Rattle.store_commands.specs.Serving.{StaysSettled};
 
 use outside::Disk;
 use sync_ids::MessageId;
@@ -50,6 +55,9 @@ pub fn extend<D: Disk, C: Clients>(
         → FitsFiles (C.meaning clients.now) store.old j two
         → ExtendsTold (C.meaning clients.now) settling j batch two (D.tells disk.old)
         (D.tells disk.new) result }
+    ensures serves { IsServed (C.meaning clients.now) store.old (D.tells disk.old)
+        → KeepsSettled settling batch
+        → ServesOn (C.meaning clients.now) store.new (D.tells disk.new) (came_to result) }
 {
     migrate_and_settle(store, disk, clients)?;
     match settling {
@@ -60,7 +68,8 @@ pub fn extend<D: Disk, C: Clients>(
 
 /// Writes the journal anew in format 2 where it is of format 1, and settles it. Beside `Ok` its
 /// outcomes are `Memory`, `DiskFault`, and `Full` exactly where a journal of format 1 has the last
-/// generation; then nothing is done.
+/// generation; then nothing is done. After `Ok` a store that may be filled up to the greatest length
+/// of a journal is served.
 pub fn migrate_and_settle<D: Disk, C: Clients>(
     store: &mut Store,
     disk: &mut D,
@@ -75,9 +84,11 @@ pub fn migrate_and_settle<D: Disk, C: Clients>(
     ensures stays { StoreStaysReady (C.meaning clients.now) store.new (D.tells disk.new).files result }
     ensures ready { OnOk result (IsReady (C.meaning clients.now) store.new
         (D.tells disk.new).files) }
+    ensures serves { store.old.limit ≡ MAX_JOURNAL
+        → OnOk result (IsServed (C.meaning clients.now) store.new (D.tells disk.new)) }
 {
     migrate(store, disk, clients)?;
-    settle(store, disk, clients)
+    settle_loaded(store, disk, clients)
 }
 
 // Writes the journal anew in format 2 where it is of format 1.
@@ -101,8 +112,13 @@ fn migrate<D: Disk, C: Clients>(store: &mut Store, disk: &mut D, clients: &C) ->
     }
 }
 
-// Settles the journal. `Memory` and `DiskFault` are its only outcomes beside `Ok`.
-fn settle<D: Disk, C: Clients>(store: &mut Store, disk: &mut D, clients: &C) -> Result<(), Outcome>
+/// Settles the journal. `Memory` and `DiskFault` are its only outcomes beside `Ok`. So a store that
+/// was served until memory was wanting is served again.
+pub fn settle_loaded<D: Disk, C: Clients>(
+    store: &mut Store,
+    disk: &mut D,
+    clients: &C,
+) -> Result<(), Outcome>
     requires ready { IsReady (C.meaning clients.now) store.old (D.tells disk.old).files }
     ensures run { DiskRun (D.tells disk.old) (D.tells disk.new) }
     ensures by { ExtendsBy (D.tells disk.old) (D.tells disk.new) result }
@@ -111,6 +127,8 @@ fn settle<D: Disk, C: Clients>(store: &mut Store, disk: &mut D, clients: &C) -> 
     ensures stays { StoreStaysReady (C.meaning clients.now) store.new (D.tells disk.new).files result }
     ensures ready { OnOk result (IsReady (C.meaning clients.now) store.new
         (D.tells disk.new).files) }
+    ensures serves { IsReadyToServe (C.meaning clients.now) store.old (D.tells disk.old)
+        → ServesOn (C.meaning clients.now) store.new (D.tells disk.new) (came_to result) }
 {
     match store.settle(disk, clients) {
         Ok(()) => Ok(()),
@@ -137,8 +155,14 @@ fn commit<D: Disk, C: Clients>(
     ensures by { ExtendsBy (D.tells disk.old) (D.tells disk.new) result }
     ensures added { AddsAs (C.meaning clients.now) Settling.Before store.old store.new batch
         (D.tells disk.old) (D.tells disk.new) result }
+    ensures stays { StoreStaysReady (C.meaning clients.now) store.new (D.tells disk.new).files
+        result }
+    ensures settled { IsSettled (C.meaning clients.now) store.old.state.facts
+        → KeepsSettled Settling.Before batch → StaysSettled (C.meaning clients.now) store.new result }
 {
     images_stand();
+    // By which a group leaves a settled journal settled.
+    store.state().show_sound();
     match store.commit_known(disk, clients, batch, id) {
         Ok(()) => Ok(()),
         Err(StoreFault::Full) => Err(Outcome::Full),
@@ -165,6 +189,10 @@ fn commit_settled<D: Disk, C: Clients>(
     ensures by { ExtendsBy (D.tells disk.old) (D.tells disk.new) result }
     ensures added { AddsAs (C.meaning clients.now) Settling.BeforeAndAfter store.old store.new
         batch (D.tells disk.old) (D.tells disk.new) result }
+    ensures stays { StoreStaysReady (C.meaning clients.now) store.new (D.tells disk.new).files
+        result }
+    ensures settled { IsSettled (C.meaning clients.now) store.old.state.facts
+        → KeepsSettled Settling.BeforeAndAfter batch → StaysSettled (C.meaning clients.now) store.new result }
 {
     match store.extend_known(disk, clients, batch, id) {
         Ok(()) => Ok(()),

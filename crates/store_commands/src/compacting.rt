@@ -7,9 +7,10 @@ ghost use Rattle.sync_store.specs.Ready.{IsReady};
 ghost use Rattle.sync_store.specs.Store.{written_in};
 ghost use Rattle.sync_words.specs.EntryTexts.{compacted_text};
 ghost use Rattle.sync_words.specs.Outcomes.{came_to};
-ghost use Rattle.store_commands.specs.Commit.{ExtendsBy};
+ghost use Rattle.store_commands.specs.Commit.{ExtendsBy, StoreStaysReady};
 ghost use Rattle.store_commands.specs.Compact.{CompactsAs, HasCompacted, MakesBrief};
 ghost use Rattle.store_commands.specs.Load.{MayExtend};
+ghost use Rattle.store_commands.specs.Serving.{IsServed, ServesOn, StaysSettled, WasLoaded};
 ghost use Rattle.store_commands.specs.Show.{PrintsText};
 
 use crate::commit::migrate_and_settle;
@@ -36,28 +37,49 @@ pub fn compact<D: Disk, W: Sink, C: Clients>(
     ensures { HasCompacted (C.meaning clients.now) (D.tells disk.old) (D.tells disk.new)
         (W.tells out.old) (W.tells out.new) (came_to result) }
 {
-    let store = load_store(alloc, hasher, disk, clients)?;
-    compact_loaded(alloc, store, disk, out, clients)
+    let mut store = load_store(alloc, hasher, disk, clients)?;
+    compact_loaded(alloc, &mut store, disk, out, clients)
 }
 
-// The same of a store that was loaded.
-fn compact_loaded<D: Disk, W: Sink, C: Clients>(
+/// The same of a store that was loaded. After each outcome but `DiskFault` it may be used again;
+/// after `Memory` it is to be settled first.
+pub fn compact_loaded<D: Disk, W: Sink, C: Clients>(
     alloc: Global,
-    store: Store,
+    store: &mut Store,
     disk: &mut D,
     out: &mut W,
     clients: &C,
 ) -> Result<(), Outcome>
-    requires { MayExtend (C.meaning clients.now) store (D.tells disk.old).files }
-    ensures { MakesBrief (C.meaning clients.now) store (D.tells disk.old) (D.tells disk.new)
-        (W.tells out.old) (W.tells out.new) (came_to result) }
+    requires { MayExtend (C.meaning clients.now) store.old (D.tells disk.old).files }
+    ensures compacted { (start : D)
+        → WasLoaded (C.meaning clients.now) store.old (D.tells start) (D.tells disk.old)
+        → HasCompacted (C.meaning clients.now) (D.tells start) (D.tells disk.new) (W.tells out.old)
+        (W.tells out.new) (came_to result) }
+    ensures serves { IsServed (C.meaning clients.now) store.old (D.tells disk.old)
+        → ServesOn (C.meaning clients.now) store.new (D.tells disk.new) (came_to result) }
+{
+    shorten(alloc, store, disk, out, clients)
+}
+
+// Migrates the journal and settles it, and writes it anew.
+fn shorten<D: Disk, W: Sink, C: Clients>(
+    alloc: Global,
+    store: &mut Store,
+    disk: &mut D,
+    out: &mut W,
+    clients: &C,
+) -> Result<(), Outcome>
+    requires { MayExtend (C.meaning clients.now) store.old (D.tells disk.old).files }
+    ensures made { MakesBrief (C.meaning clients.now) store.old (D.tells disk.old)
+        (D.tells disk.new) (W.tells out.old) (W.tells out.new) (came_to result) }
+    ensures serves { IsServed (C.meaning clients.now) store.old (D.tells disk.old)
+        → ServesOn (C.meaning clients.now) store.new (D.tells disk.new) (came_to result) }
 {
     // The law by which the store's sum is that of the brief account.
     by_facts();
-    let mut store = store;
-    migrate_and_settle(&mut store, disk, clients)?;
+    migrate_and_settle(store, disk, clients)?;
     let old = store.end();
-    make_brief(&mut store, disk, clients)?;
+    make_brief(store, disk, clients)?;
     print_ends(alloc, old, store.end(), out)
 }
 
@@ -75,6 +97,11 @@ fn make_brief<D: Disk, C: Clients>(
     ensures by { ExtendsBy (D.tells disk.old) (D.tells disk.new) result }
     ensures compacted { CompactsAs (C.meaning clients.now) store.old store.new (D.tells disk.old)
         (D.tells disk.new) result }
+    ensures stays { StoreStaysReady (C.meaning clients.now) store.new (D.tells disk.new).files
+        result }
+    ensures settled { StaysSettled (C.meaning clients.now) store.new result }
+    ensures limit { store.new.limit ≡ store.old.limit }
+    ensures short { written_in store.new ≡ kind.Short }
 {
     match store.compact(disk, clients) {
         Ok(()) => Ok(()),

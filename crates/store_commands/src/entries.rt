@@ -9,6 +9,7 @@ ghost use Rattle.store_commands.specs.Commit.{MayFollow};
 ghost use Rattle.store_commands.specs.Entries.{EntryAdded, HasAdded};
 ghost use Rattle.store_commands.specs.Load.{MayExtend};
 ghost use Rattle.store_commands.specs.Plans.{contact_plan, group_plan, level_plan};
+ghost use Rattle.store_commands.specs.Serving.{IsServed, KeepsSettled, ServesOn, WasLoaded};
 ghost use Rattle.store_commands.specs.Shown.{added_text};
 
 use crate::commit::{Settling, extend};
@@ -34,8 +35,28 @@ pub fn add_contact<D: Disk, W: Sink, C: Clients>(
     ensures { HasAdded (C.meaning clients.now) contact_plan Settling.Before (D.tells disk.old)
         (D.tells disk.new) (W.tells out.old) (W.tells out.new) (came_to result) }
 {
-    let store = load_store(alloc, hasher, disk, clients)?;
-    let entry = plan_contact(&store)?;
+    let mut store = load_store(alloc, hasher, disk, clients)?;
+    add_contact_loaded(alloc, &mut store, disk, out, clients)
+}
+
+/// The same of a store that was loaded. After each outcome but `DiskFault` it may be used again;
+/// after `Memory` it is to be settled first.
+pub fn add_contact_loaded<D: Disk, W: Sink, C: Clients>(
+    alloc: Global,
+    store: &mut Store,
+    disk: &mut D,
+    out: &mut W,
+    clients: &C,
+) -> Result<(), Outcome>
+    requires { MayExtend (C.meaning clients.now) store.old (D.tells disk.old).files }
+    ensures added { (start : D)
+        → WasLoaded (C.meaning clients.now) store.old (D.tells start) (D.tells disk.old)
+        → HasAdded (C.meaning clients.now) contact_plan Settling.Before
+        (D.tells start) (D.tells disk.new) (W.tells out.old) (W.tells out.new) (came_to result) }
+    ensures serves { IsServed (C.meaning clients.now) store.old (D.tells disk.old)
+        → ServesOn (C.meaning clients.now) store.new (D.tells disk.new) (came_to result) }
+{
+    let entry = plan_contact(store)?;
     add_entry(
         alloc,
         store,
@@ -57,12 +78,32 @@ pub fn add_group<D: Disk, W: Sink, C: Clients>(
     out: &mut W,
     clients: &C,
 ) -> Result<(), Outcome>
-    ensures { HasAdded (C.meaning clients.now) (λ f. group_plan (C.meaning clients.now) f def)
-        Settling.Before (D.tells disk.old) (D.tells disk.new) (W.tells out.old) (W.tells out.new)
-        (came_to result) }
+    ensures { HasAdded (C.meaning clients.now) (λ f. group_plan (C.meaning clients.now) f def) Settling.Before (D.tells disk.old)
+        (D.tells disk.new) (W.tells out.old) (W.tells out.new) (came_to result) }
 {
-    let store = load_store(alloc, hasher, disk, clients)?;
-    let entry = plan_group(&store, clients, def)?;
+    let mut store = load_store(alloc, hasher, disk, clients)?;
+    add_group_loaded(alloc, &mut store, def, disk, out, clients)
+}
+
+/// The same of a store that was loaded. After each outcome but `DiskFault` it may be used again;
+/// after `Memory` it is to be settled first.
+pub fn add_group_loaded<D: Disk, W: Sink, C: Clients>(
+    alloc: Global,
+    store: &mut Store,
+    def: GroupDef,
+    disk: &mut D,
+    out: &mut W,
+    clients: &C,
+) -> Result<(), Outcome>
+    requires { MayExtend (C.meaning clients.now) store.old (D.tells disk.old).files }
+    ensures added { (start : D)
+        → WasLoaded (C.meaning clients.now) store.old (D.tells start) (D.tells disk.old)
+        → HasAdded (C.meaning clients.now) (λ f. group_plan (C.meaning clients.now) f def) Settling.Before
+        (D.tells start) (D.tells disk.new) (W.tells out.old) (W.tells out.new) (came_to result) }
+    ensures serves { IsServed (C.meaning clients.now) store.old (D.tells disk.old)
+        → ServesOn (C.meaning clients.now) store.new (D.tells disk.new) (came_to result) }
+{
+    let entry = plan_group(store, clients, def)?;
     add_entry(
         alloc,
         store,
@@ -86,12 +127,34 @@ pub fn set_level<D: Disk, W: Sink, C: Clients>(
     out: &mut W,
     clients: &C,
 ) -> Result<(), Outcome>
-    ensures { HasAdded (C.meaning clients.now) (λ f. level_plan f contact group.now level)
-        Settling.Before (D.tells disk.old) (D.tells disk.new) (W.tells out.old) (W.tells out.new)
-        (came_to result) }
+    ensures { HasAdded (C.meaning clients.now) (λ f. level_plan f contact group.now level) Settling.Before (D.tells disk.old)
+        (D.tells disk.new) (W.tells out.old) (W.tells out.new) (came_to result) }
 {
-    let store = load_store(alloc, hasher, disk, clients)?;
-    let entry = plan_level(&store, contact, group, level)?;
+    let mut store = load_store(alloc, hasher, disk, clients)?;
+    set_level_loaded(alloc, &mut store, contact, group, level, disk, out, clients)
+}
+
+/// The same of a store that was loaded. After each outcome but `DiskFault` it may be used again;
+/// after `Memory` it is to be settled first.
+pub fn set_level_loaded<D: Disk, W: Sink, C: Clients>(
+    alloc: Global,
+    store: &mut Store,
+    contact: u8,
+    group: &GroupId,
+    level: Level,
+    disk: &mut D,
+    out: &mut W,
+    clients: &C,
+) -> Result<(), Outcome>
+    requires { MayExtend (C.meaning clients.now) store.old (D.tells disk.old).files }
+    ensures added { (start : D)
+        → WasLoaded (C.meaning clients.now) store.old (D.tells start) (D.tells disk.old)
+        → HasAdded (C.meaning clients.now) (λ f. level_plan f contact group.now level) Settling.Before
+        (D.tells start) (D.tells disk.new) (W.tells out.old) (W.tells out.new) (came_to result) }
+    ensures serves { IsServed (C.meaning clients.now) store.old (D.tells disk.old)
+        → ServesOn (C.meaning clients.now) store.new (D.tells disk.new) (came_to result) }
+{
+    let entry = plan_level(store, contact, group, level)?;
     add_entry(
         alloc,
         store,
@@ -105,10 +168,11 @@ pub fn set_level<D: Disk, W: Sink, C: Clients>(
 }
 
 /// Settles the journal, adds the entry, settles again where that is asked for, and prints the
-/// entry's line. The id is that of the message that the entry brings, where the caller has it.
+/// entry's line. The id is that of the message that the entry brings, where the caller has it. A
+/// store that is served stays so where the journal is settled behind the entry.
 pub fn add_entry<D: Disk, W: Sink, C: Clients>(
     alloc: Global,
-    store: Store,
+    store: &mut Store,
     entry: Entry,
     id: Option<MessageId>,
     settling: Settling,
@@ -116,20 +180,22 @@ pub fn add_entry<D: Disk, W: Sink, C: Clients>(
     out: &mut W,
     clients: &C,
 ) -> Result<(), Outcome>
-    requires ready { MayExtend (C.meaning clients.now) store (D.tells disk.old).files }
-    requires follows { MayFollow (C.meaning clients.now) store.state.facts (entry ∷ []) }
+    requires ready { MayExtend (C.meaning clients.now) store.old (D.tells disk.old).files }
+    requires follows { MayFollow (C.meaning clients.now) store.old.state.facts (entry ∷ []) }
     requires kind { is_settling_kind (entry ∷ []) ≡ false }
     requires plain { is_account_kind (entry ∷ []) ≡ false }
     requires named { IsOfAll id (entry ∷ []) }
-    ensures { EntryAdded (C.meaning clients.now) settling store entry (D.tells disk.old)
+    ensures added { EntryAdded (C.meaning clients.now) settling store.old entry (D.tells disk.old)
         (D.tells disk.new) (W.tells out.old) (W.tells out.new) (came_to result) }
+    ensures serves { IsServed (C.meaning clients.now) store.old (D.tells disk.old)
+        → KeepsSettled settling (entry ∷ [])
+        → ServesOn (C.meaning clients.now) store.new (D.tells disk.new) (came_to result) }
 {
-    let mut store = store;
     // A name of its own, since the id goes with the batch too.
     let known = id;
     let line = line_of(alloc, &entry, known)?;
     let batch = Batch::single(alloc, entry)?;
-    extend(&mut store, batch, id, settling, disk, clients)?;
+    extend(store, batch, id, settling, disk, clients)?;
     print_bytes(line.as_bytes(), out)
 }
 

@@ -1,4 +1,5 @@
-//! The commands of a store: what each does to its files, what it prints, and what it comes to.
+//! The commands of a store: what each does to its files, what it prints, and what it comes to. Each
+//! command over files is a load and then the call of the same name over a store that was loaded.
 //!
 //! - `init`, `entries`, `post`, `compacting`, `show`: the commands, a file for each kind.
 //! - `load`: a store that is loaded, or what the command comes to without one.
@@ -20,14 +21,17 @@ mod post;
 mod print;
 mod show;
 
-pub use commit::{Settling, migrate_and_settle};
-pub use compacting::compact;
-pub use entries::{add_contact, add_entry, add_group, set_level};
+pub use commit::{Settling, migrate_and_settle, settle_loaded};
+pub use compacting::{compact, compact_loaded};
+pub use entries::{
+    add_contact, add_contact_loaded, add_entry, add_group, add_group_loaded, set_level,
+    set_level_loaded,
+};
 pub use init::make_store;
 pub use laws::lines_keep_places;
 pub use listing::{Listing, add_listing};
 pub use load::load_store;
 pub use plans::{PlannedPost, plan_message};
-pub use post::post_message;
+pub use post::{post_loaded, post_message};
 pub use print::print_bytes;
-pub use show::{list, write_body};
+pub use show::{list, list_loaded, write_body, write_body_loaded};

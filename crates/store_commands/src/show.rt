@@ -1,6 +1,8 @@
 // The commands that only look: `show`, `inbox` and `body ID`.
+ghost use Rattle.sync_rules.specs.Clients.{Meaning};
 ghost use Rattle.sync_words.specs.Outcomes.{came_to};
 ghost use Rattle.store_commands.specs.Looking.{HasLooked};
+ghost use Rattle.store_commands.specs.Serving.{WasLoaded};
 ghost use Rattle.store_commands.specs.Show.{PrintsShowing, PrintsText};
 ghost use Rattle.store_commands.specs.Shown.{body_shown, listing_shown, listing_text};
 
@@ -28,7 +30,24 @@ pub fn list<D: Disk, W: Sink, C: Clients>(
         (D.tells disk.new) (W.tells out.old) (W.tells out.new) (came_to result) }
 {
     let store = load_store(alloc, hasher, disk, clients)?;
-    print_listing(alloc, &store, listing, out)
+    list_loaded(alloc, &store, listing, disk, out)
+}
+
+/// The same of a store that was loaded from this disk, of which no call is made.
+pub fn list_loaded<D: Disk, W: Sink>(
+    alloc: Global,
+    store: &Store,
+    listing: Listing,
+    disk: &D,
+    out: &mut W,
+) -> Result<(), Outcome>
+    ensures { (clients : Meaning) (start : D)
+        → WasLoaded clients store.now (D.tells start) (D.tells disk.now)
+        → HasLooked clients (listing_shown listing) (D.tells start) (D.tells disk.now)
+        (W.tells out.old) (W.tells out.new) (came_to result) }
+{
+    let _as_it_is = disk;
+    print_listing(alloc, store, listing, out)
 }
 
 fn print_listing<W: Sink>(
@@ -58,7 +77,23 @@ pub fn write_body<D: Disk, W: Sink, C: Clients>(
         (D.tells disk.new) (W.tells out.old) (W.tells out.new) (came_to result) }
 {
     let store = load_store(alloc, hasher, disk, clients)?;
-    print_body(&store, id, out)
+    write_body_loaded(&store, id, disk, out)
+}
+
+/// The same of a store that was loaded from this disk, of which no call is made.
+pub fn write_body_loaded<D: Disk, W: Sink>(
+    store: &Store,
+    id: &MessageId,
+    disk: &D,
+    out: &mut W,
+) -> Result<(), Outcome>
+    ensures { (clients : Meaning) (start : D)
+        → WasLoaded clients store.now (D.tells start) (D.tells disk.now)
+        → HasLooked clients (body_shown id.now) (D.tells start) (D.tells disk.now)
+        (W.tells out.old) (W.tells out.new) (came_to result) }
+{
+    let _as_it_is = disk;
+    print_body(store, id, out)
 }
 
 fn print_body<W: Sink>(store: &Store, id: &MessageId, out: &mut W) -> Result<(), Outcome>

@@ -14,4 +14,4 @@ mod thread;
 mod tree;
 
 pub use lines::tree_line;
-pub use tree::{Window, print_tree};
+pub use tree::{Window, print_tree, print_tree_loaded};

@@ -5,6 +5,7 @@ ghost use Rattle.sync_rules.specs.Clients.{Meaning};
 ghost use Rattle.sync_words.specs.Outcomes.{came_to};
 ghost use Rattle.journal_state.specs.Whole.{KnowsJudgements};
 ghost use Rattle.store_commands.specs.Looking.{HasLooked};
+ghost use Rattle.store_commands.specs.Serving.{WasLoaded};
 ghost use Rattle.store_commands.specs.Show.{PrintsShowing, PrintsText};
 ghost use Rattle.tree_commands.specs.Trees.{delivered_in, parents_of, tree_shown, walk_text};
 
@@ -46,7 +47,25 @@ pub fn print_tree<D: Disk, W: Sink, C: Clients>(
         (came_to result) }
 {
     let store = load_store(alloc, hasher, disk, clients)?;
-    print_window(alloc, &store, window, out)
+    print_tree_loaded(alloc, &store, window, disk, out)
+}
+
+/// The same of a store that was loaded from this disk, of which no call is made.
+pub fn print_tree_loaded<D: Disk, W: Sink>(
+    alloc: Global,
+    store: &Store,
+    window: &Window,
+    disk: &D,
+    out: &mut W,
+) -> Result<(), Outcome>
+    requires { (clients : Meaning) × KnowsJudgements clients store.now.state }
+    ensures { (clients : Meaning) (start : D)
+        → WasLoaded clients store.now (D.tells start) (D.tells disk.now)
+        → HasLooked clients (tree_shown clients window.now) (D.tells start) (D.tells disk.now)
+        (W.tells out.old) (W.tells out.new) (came_to result) }
+{
+    let _as_it_is = disk;
+    print_window(alloc, store, window, out)
 }
 
 // Prints a part of the walk, by the judgements that the store keeps.

@@ -1,8 +1,5 @@
-use Rattle.std.proofs.Common.{refl, sym, ◌∙◌, inl}
-use Rattle.store_commands.proofs.Stopped.{stops_refused}
-use Rattle.mailbox_commands.specs.Tests.{mailbox_test}
-use Rattle.mailbox_commands.proofs.Early.{tested_begins}
-use Rattle.mailbox_commands.proofs.Sent.{ready_still, mailed_none, mailed_on, mailed_read}
+use Rattle.std.proofs.Common.{refl}
+use Rattle.mailbox_commands.proofs.Sent.{mailed_none, mailed_on}
 use Rattle.mailbox_commands.proofs.sending.send_mail.Goals as goal
 
 pub returns-in_err-store : goal.returns-in_err-store
@@ -14,33 +11,15 @@ returns-in_err-store g c =
     (mailed_none clients c.args.asked _ _ _ _ came e.run e.rests e.by e.loaded
     (record { same = refl; same_faults = refl }))
 
-pub returns-in-Some : goal.returns-in-Some
-returns-in-Some g c =
-    let clients = g.C.Clients.meaning c.args.clients.now in
-    let e = c.in_ok-store.ensures in
-    inl (stops_refused clients (λ f. mailbox_test f c.args.asked.contact) _ _ _ _ _ e.run
-    (record { same = refl; same_faults = refl }) c.in_ok-store.store e.rests e.loaded
-    c.in-Some.why (sym c.refusal.ensures ∙ c.in-Some.is) tt)
-
-pub send_loaded-requires : goal.send_loaded-requires
-send_loaded-requires g c =
-    let clients = g.C.Clients.meaning c.args.clients.now in
-    record {
-      ready = ready_still clients c.in_ok-store.store _ _ c.now-now.ensures.call
-          c.in_ok-store.ensures.opened;
-      begins =
-          tested_begins c.in_ok-store.store.state.facts c.args.asked.contact (sym c.refusal.ensures
-          ∙ c.in_default.is);
-      latency = c.requires;
-    }
+pub send_mail_loaded-requires : goal.send_mail_loaded-requires
+send_mail_loaded-requires g c =
+    record { ready = c.in_ok-store.ensures.opened; latency = c.requires }
 
 pub returns : goal.returns
-returns g c =
-    let clients = g.C.Clients.meaning c.args.clients.now in
-    let e = c.in_ok-store.ensures in
-    mailed_read clients c.args.asked c.now-now.result _ _ _ _ _ _ c.in_ok-store.store _ e.run
-    e.rests
-    (ready_still clients c.in_ok-store.store _ _ c.now-now.ensures.call
-    c.in_ok-store.ensures.opened)
-    (sym c.refusal.ensures ∙ c.in_default.is) c.now-now.ensures.call c.now-now.ensures.links
-    c.send_loaded.ensures
+returns g c = c.send_mail_loaded.ensures.sent c.args.host.now (record {
+  run = c.in_ok-store.ensures.run;
+  rests = c.in_ok-store.ensures.rests;
+  facts = c.in_ok-store.ensures.loaded;
+  synced = c.in_ok-store.ensures.settled;
+  opened = c.in_ok-store.ensures.opened;
+})

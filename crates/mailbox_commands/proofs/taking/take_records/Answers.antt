@@ -28,3 +28,28 @@ returns-in-Err-DiskFault-clause-does g c =
     (rw c.in-Err-DiskFault.field-0-is at c.in-Err-DiskFault.ensures.read
     c.requires.ready.still_open)
     ((rw c.in-Err-DiskFault.field-0-is at c.in-Err-DiskFault.ensures.fault) refl)
+
+pub returns-in-Ok-clause-stays : goal.returns-in-Ok-clause-stays
+returns-in-Ok-clause-stays g c =
+    let has = c.in-Ok.ensures.read c.requires.ready.still_open in
+    c.in-Ok.ensures.ready has.answer.0
+
+pub returns-in-Ok-clause-settled : goal.returns-in-Ok-clause-settled
+returns-in-Ok-clause-settled g c =
+    let has = c.in-Ok.ensures.read c.requires.ready.still_open in
+    has.answer.1
+
+pub returns-in-Err-Full-clause-stays : goal.returns-in-Err-Full-clause-stays
+returns-in-Err-Full-clause-stays g c =
+    let has = rw c.in-Err-Full.field-0-is at c.in-Err-Full.ensures.read c.requires.ready.still_open in
+    c.in-Err-Full.ensures.ready has.answer.0
+
+pub returns-in-Err-Full-clause-settled : goal.returns-in-Err-Full-clause-settled
+returns-in-Err-Full-clause-settled g c =
+    let has = rw c.in-Err-Full.field-0-is at c.in-Err-Full.ensures.read c.requires.ready.still_open in
+    has.answer.1
+
+pub returns-in-Err-Memory-clause-stays : goal.returns-in-Err-Memory-clause-stays
+returns-in-Err-Memory-clause-stays g c =
+    let has = rw c.in-Err-Memory.field-0-is at c.in-Err-Memory.ensures.read c.requires.ready.still_open in
+    c.in-Err-Memory.ensures.ready has.answer.0

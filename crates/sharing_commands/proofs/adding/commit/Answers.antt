@@ -1,4 +1,4 @@
-use Rattle.std.proofs.Common.{Ok, Err}
+use Rattle.std.proofs.Common.{Ok, Err, ◌∙◌}
 use Rattle.sync_store.specs.declared.fault.StoreFault.TheVariants as fault
 use Rattle.sync_store.proofs.Runs.{runs_commit}
 use Rattle.sharing_commands.proofs.Fronts.{one_added, one_broken, one_left, one_refused}
@@ -49,3 +49,16 @@ returns-in-Err-DiskFault-clause-adds g c =
     c.in-Err-DiskFault.ensures.run
     (record { just = tt; most = c.in-Err-DiskFault.ensures.calls.most }) c.in-Err-DiskFault.ensures.appends
     (c.in-Err-DiskFault.ensures.extends c.requires.ready.still_open)) answer
+
+pub returns-in-Ok-clause-stays : goal.returns-in-Ok-clause-stays
+returns-in-Ok-clause-stays g c = c.in-Ok.ensures.ready c.in-Ok.ensures.answer.2.closed
+
+pub returns-in-Err-Full-clause-stays : goal.returns-in-Err-Full-clause-stays
+returns-in-Err-Full-clause-stays g c =
+    let answer = rw c.in-Err-Full.field-0-is at c.in-Err-Full.ensures.answer in
+    c.in-Err-Full.ensures.ready (answer.2.closed ∙ answer.0)
+
+pub returns-in-Err-Memory-clause-stays : goal.returns-in-Err-Memory-clause-stays
+returns-in-Err-Memory-clause-stays g c =
+    let answer = rw c.in-Err-Memory.field-0-is at c.in-Err-Memory.ensures.answer in
+    c.in-Err-Memory.ensures.ready (answer.2.closed ∙ answer.0)

@@ -4,6 +4,7 @@ use Rattle.std.proofs.lemmas.List.{take_more}
 use Rattle.client_sharing.specs.declared.agreement.Target.{Target}
 use Rattle.sharing_commands.proofs.Fronts.{adds_on, nothing_added}
 use Rattle.sharing_commands.proofs.Targets.{set_more, set_stopped, text_more}
+use Rattle.sharing_commands.proofs.Standing.{known_on}
 use Rattle.sharing_commands.proofs.setting.set_all.Goals as goal
 
 pub targets-init : goal.targets-init
@@ -51,3 +52,9 @@ targets-preserved g c =
           c.targets.invariant.adds (string_bytes c.args.to.now) _ _ c.targets.invariant.text
           c.in_ok-set_target.ensures.text;
     }
+
+pub returns-in_err-set_target-clause-stands : goal.returns-in_err-set_target-clause-stands
+returns-in_err-set_target-clause-stands g c =
+    known_on c.from_residual.result c.in_err-set_target.field-0.0 c.from_residual.ensures.1
+    (g.C.Clients.meaning c.args.clients.now) c.set_target.new.store
+    (g.D.Disk.tells c.set_target.new.disk) c.args.contact c.in_err-set_target.ensures.stands

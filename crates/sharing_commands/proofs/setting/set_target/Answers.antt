@@ -1,5 +1,6 @@
 use Rattle.sync_words.specs.declared.outcome.Outcome.TheVariants as outcome
 use Rattle.sharing_commands.proofs.Fronts.{adds_on, none_added}
+use Rattle.sharing_commands.proofs.Standing.{known_on}
 use Rattle.sharing_commands.proofs.setting.set_target.Goals as goal
 
 pub returns-in_err-deed_line-clause-adds : goal.returns-in_err-deed_line-clause-adds
@@ -7,3 +8,9 @@ returns-in_err-deed_line-clause-adds g c =
     let clients = g.C.Clients.meaning c.args.clients.now in
     adds_on c.from_residual.result outcome.Memory c.from_residual.ensures.1 clients _ _ _ _ _
     (none_added c.images_stand.ensures clients c.args.store.now _ _ c.requires.stands.is_store)
+
+pub returns-in_err-deed_line-clause-stands : goal.returns-in_err-deed_line-clause-stands
+returns-in_err-deed_line-clause-stands g c =
+    known_on c.from_residual.result outcome.Memory c.from_residual.ensures.1
+    (g.C.Clients.meaning c.args.clients.now) c.args.store.now (g.D.Disk.tells c.args.disk.now)
+    c.args.contact c.requires.stands

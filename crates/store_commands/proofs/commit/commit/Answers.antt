@@ -1,7 +1,12 @@
-use Rattle.std.proofs.Common.{refl, ◌∙◌, [], ◌∷◌, Ok, Err}
+use Rattle.std.proofs.Common.{refl, ◌∙◌, [], ◌∷◌, Ok, Err, subst, sym}
+use Rattle.sync_rules.specs.Facts.{Facts}
+use Rattle.sync_rules.specs.Knowing.{KnowsGroups}
+use Rattle.sync_rules.specs.Steps.{IsSettled}
+use Rattle.journal_state.specs.Whole.{StateValue}
 use Rattle.sync_store.specs.declared.fault.StoreFault.TheVariants as fault
 use Rattle.sync_store.proofs.Runs.{runs_commit}
 use Rattle.store_commands.proofs.Adds.{one_whole}
+use Rattle.store_commands.proofs.Serving.{kept_settled}
 use Rattle.store_commands.proofs.commit.commit.Goals as goal
 
 pub returns-in-Ok-clause-added : goal.returns-in-Ok-clause-added
@@ -19,6 +24,7 @@ returns-in-Ok-clause-added g c =
       file = runs.file;
       format = runs.format;
       generation = runs.generation;
+      limit = runs.limit;
       leads = runs.leads;
       answer =
           (answer.2.closed, answer.1, one_whole clients c.args.store.now.state.facts c.args.batch);
@@ -42,6 +48,7 @@ returns-in-Err-Full-clause-added g c =
       file = runs.file;
       format = runs.format;
       generation = runs.generation;
+      limit = runs.limit;
       leads = runs.leads;
       answer = (answer.2.closed ∙ answer.0, answer.1, refl);
     }
@@ -64,6 +71,7 @@ returns-in-Err-Memory-clause-added g c =
       file = runs.file;
       format = runs.format;
       generation = runs.generation;
+      limit = runs.limit;
       leads = runs.leads;
       answer = tt;
     }
@@ -86,6 +94,7 @@ returns-in-Err-DiskFault-clause-added g c =
       file = runs.file;
       format = runs.format;
       generation = runs.generation;
+      limit = runs.limit;
       leads = runs.leads;
       answer = tt;
     }
@@ -93,3 +102,29 @@ returns-in-Err-DiskFault-clause-added g c =
 pub returns-in-Err-DiskFault-clause-by : goal.returns-in-Err-DiskFault-clause-by
 returns-in-Err-DiskFault-clause-by g c =
     (rw c.in-Err-DiskFault.field-0-is at c.in-Err-DiskFault.ensures.fault) refl
+
+pub returns-in-Ok-clause-stays : goal.returns-in-Ok-clause-stays
+returns-in-Ok-clause-stays g c = c.in-Ok.ensures.ready c.in-Ok.ensures.answer.2.closed
+
+pub returns-in-Ok-clause-settled : goal.returns-in-Ok-clause-settled
+returns-in-Ok-clause-settled g c settled keeps =
+    kept_settled (g.C.Clients.meaning c.args.clients.now) c.args.store.now.state.facts _
+    c.args.batch
+    (subst (λ (s : StateValue). KnowsGroups s.facts) c.state.ensures c.show_sound.ensures.known)
+    settled c.in-Ok.ensures.answer.2.facts keeps
+
+pub returns-in-Err-Full-clause-stays : goal.returns-in-Err-Full-clause-stays
+returns-in-Err-Full-clause-stays g c =
+    let answer = rw c.in-Err-Full.field-0-is at c.in-Err-Full.ensures.answer in
+    c.in-Err-Full.ensures.ready (answer.2.closed ∙ answer.0)
+
+pub returns-in-Err-Full-clause-settled : goal.returns-in-Err-Full-clause-settled
+returns-in-Err-Full-clause-settled g c settled keeps =
+    let answer = rw c.in-Err-Full.field-0-is at c.in-Err-Full.ensures.answer in
+    subst (λ (f : Facts). IsSettled (g.C.Clients.meaning c.args.clients.now) f)
+    (sym answer.2.facts) settled
+
+pub returns-in-Err-Memory-clause-stays : goal.returns-in-Err-Memory-clause-stays
+returns-in-Err-Memory-clause-stays g c =
+    let answer = rw c.in-Err-Memory.field-0-is at c.in-Err-Memory.ensures.answer in
+    c.in-Err-Memory.ensures.ready (answer.2.closed ∙ answer.0)

@@ -1,4 +1,6 @@
-use Rattle.std.proofs.Common.{refl, ◌∙◌}
+use Rattle.std.proofs.Common.{refl, ◌∙◌, subst, sym}
+use Rattle.sync_rules.specs.Facts.{Facts}
+use Rattle.sync_rules.specs.Steps.{IsSettled}
 use Rattle.store_commands.proofs.Adds.{extended_whole}
 use Rattle.store_commands.proofs.commit.commit_settled.Goals as goal
 
@@ -12,6 +14,7 @@ returns-in-Ok-clause-added g c =
       file = has.runs.file;
       format = has.runs.format;
       generation = has.runs.generation;
+      limit = has.runs.limit;
       leads = has.runs.leads;
       answer = (has.answer.0, has.answer.1, extended_whole clients _ _ c.args.batch tt _ _ has);
     }
@@ -26,6 +29,7 @@ returns-in-Err-Full-clause-added g c =
       file = has.runs.file;
       format = has.runs.format;
       generation = has.runs.generation;
+      limit = has.runs.limit;
       leads = has.runs.leads;
       answer = (answer.2.closed ∙ c.requires.ready.still_open, answer.0, answer.1);
     }
@@ -39,6 +43,7 @@ returns-in-Err-Memory-clause-added g c =
       file = has.runs.file;
       format = has.runs.format;
       generation = has.runs.generation;
+      limit = has.runs.limit;
       leads = has.runs.leads;
       answer = tt;
     }
@@ -52,6 +57,7 @@ returns-in-Err-DiskFault-clause-added g c =
       file = has.runs.file;
       format = has.runs.format;
       generation = has.runs.generation;
+      limit = has.runs.limit;
       leads = has.runs.leads;
       answer = tt;
     }
@@ -59,3 +65,30 @@ returns-in-Err-DiskFault-clause-added g c =
 pub returns-in-Err-DiskFault-clause-by : goal.returns-in-Err-DiskFault-clause-by
 returns-in-Err-DiskFault-clause-by g c =
     (rw c.in-Err-DiskFault.field-0-is at c.in-Err-DiskFault.ensures.fault) refl
+
+pub returns-in-Ok-clause-stays : goal.returns-in-Ok-clause-stays
+returns-in-Ok-clause-stays g c =
+    c.in-Ok.ensures.ready (c.in-Ok.ensures.extended c.requires.ready.still_open).answer.0
+
+pub returns-in-Ok-clause-settled : goal.returns-in-Ok-clause-settled
+returns-in-Ok-clause-settled g c settled keeps =
+    (c.in-Ok.ensures.extended c.requires.ready.still_open).answer.3
+
+pub returns-in-Err-Full-clause-stays : goal.returns-in-Err-Full-clause-stays
+returns-in-Err-Full-clause-stays g c =
+    let has = c.in-Err-Full.ensures.extended c.requires.ready.still_open in
+    let answer = rw c.in-Err-Full.field-0-is at has.answer in
+    c.in-Err-Full.ensures.ready (answer.2.closed ∙ c.requires.ready.still_open)
+
+pub returns-in-Err-Full-clause-settled : goal.returns-in-Err-Full-clause-settled
+returns-in-Err-Full-clause-settled g c settled keeps =
+    let has = c.in-Err-Full.ensures.extended c.requires.ready.still_open in
+    let answer = rw c.in-Err-Full.field-0-is at has.answer in
+    subst (λ (f : Facts). IsSettled (g.C.Clients.meaning c.args.clients.now) f)
+    (sym answer.2.facts) settled
+
+pub returns-in-Err-Memory-clause-stays : goal.returns-in-Err-Memory-clause-stays
+returns-in-Err-Memory-clause-stays g c =
+    let has = c.in-Err-Memory.ensures.extended c.requires.ready.still_open in
+    let answer = rw c.in-Err-Memory.field-0-is at has.answer in
+    c.in-Err-Memory.ensures.ready answer.0

@@ -1,8 +1,9 @@
-use Rattle.std.proofs.Common.{[]}
+use Rattle.std.proofs.Common.{[], ◌∙◌}
 use Rattle.store_commands.proofs.Adds.{caused_later}
 use Rattle.store_commands.proofs.Migrates.{comes_settled, migrated_anew_err, settled_anew}
 use Rattle.store_commands.proofs.Migrates.{settled_unfull}
 use Rattle.store_commands.proofs.Passing.{anew_on, by_on, full_on, ready_on}
+use Rattle.store_commands.proofs.Serving.{served_ok}
 use Rattle.store_commands.proofs.commit.migrate_and_settle.Goals as goal
 
 pub returns-in_err-migrate-clause-by : goal.returns-in_err-migrate-clause-by
@@ -40,30 +41,43 @@ returns-in_err-migrate-clause-stays g c =
 pub returns-clause-by : goal.returns-clause-by
 returns-clause-by g c =
     caused_later (g.D.Disk.tells c.args.disk.now) (g.D.Disk.tells c.migrate.new.disk)
-    (g.D.Disk.tells c.settle.new.disk) c.settle.result c.in_ok-migrate.ensures.run.later
-    c.settle.ensures.by
+    (g.D.Disk.tells c.settle_loaded.new.disk) c.settle_loaded.result c.in_ok-migrate.ensures.run.later
+    c.settle_loaded.ensures.by
 
 pub returns-clause-settled : goal.returns-clause-settled
 returns-clause-settled g c =
     let clients = g.C.Clients.meaning c.args.clients.now in
     let s = c.args.store.now in
     let s1 = c.migrate.new.store in
-    let s2 = c.settle.new.store in
+    let s2 = c.settle_loaded.new.store in
     let migrated = c.in_ok-migrate.ensures.migrated in
-    let settled = c.settle.ensures.settled in
+    let settled = c.settle_loaded.ensures.settled in
     record {
       more = settled.more;
       comes =
           comes_settled clients s s1 s2 (g.D.Disk.tells c.args.disk.now)
-          (g.D.Disk.tells c.migrate.new.disk) (g.D.Disk.tells c.settle.new.disk) _
-          c.settle.result migrated.answer.0
+          (g.D.Disk.tells c.migrate.new.disk) (g.D.Disk.tells c.settle_loaded.new.disk) _
+          c.settle_loaded.result migrated.answer.0
           c.in_ok-migrate.ensures.run migrated settled;
       filled = settled.filled;
-      answer = settled_anew clients s s1 s2 _ c.settle.result migrated.answer settled.comes.format
+      answer = settled_anew clients s s1 s2 _ c.settle_loaded.result migrated.answer settled.comes.format
           settled.comes.generation settled.comes.file settled.answer;
     }
 
 pub returns-clause-untouched : goal.returns-clause-untouched
 returns-clause-untouched g c full =
-    absurd (settled_unfull (g.C.Clients.meaning c.args.clients.now) c.settle.new.store
-    c.settle.result c.settle.ensures.settled.answer full)
+    absurd (settled_unfull (g.C.Clients.meaning c.args.clients.now) c.settle_loaded.new.store
+    c.settle_loaded.result c.settle_loaded.ensures.settled.answer full)
+
+pub returns-clause-serves : goal.returns-clause-serves
+returns-clause-serves g c limit =
+    let clients = g.C.Clients.meaning c.args.clients.now in
+    let s = c.args.store.now in
+    let s1 = c.migrate.new.store in
+    let s2 = c.settle_loaded.new.store in
+    let migrated = c.in_ok-migrate.ensures.migrated in
+    let settled = c.settle_loaded.ensures.settled in
+    served_ok clients s s2 (g.D.Disk.tells c.settle_loaded.new.disk) c.settle_loaded.result
+    (settled.comes.limit ∙ migrated.comes.limit ∙ limit) c.settle_loaded.ensures.stays
+    (settled_anew clients s s1 s2 _ c.settle_loaded.result migrated.answer settled.comes.format
+    settled.comes.generation settled.comes.file settled.answer)

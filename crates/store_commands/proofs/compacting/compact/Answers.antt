@@ -1,5 +1,5 @@
 use Rattle.std.proofs.Common.{refl}
-use Rattle.store_commands.proofs.Compacts.{brief_loaded, brief_none, made_on}
+use Rattle.store_commands.proofs.Compacts.{brief_none, made_on}
 use Rattle.store_commands.proofs.compacting.compact.Goals as goal
 
 pub returns-in_err-store : goal.returns-in_err-store
@@ -12,7 +12,10 @@ returns-in_err-store g c =
     c.in_err-store.ensures.loaded (record { same = refl; same_faults = refl }))
 
 pub returns : goal.returns
-returns g c =
-    brief_loaded (g.C.Clients.meaning c.args.clients.now) _ _ _ _ _ c.in_ok-store.store _
-    c.in_ok-store.ensures.run c.in_ok-store.ensures.rests
-    c.in_ok-store.ensures.opened c.compact_loaded.ensures
+returns g c = c.compact_loaded.ensures.compacted c.args.disk.now (record {
+  run = c.in_ok-store.ensures.run;
+  rests = c.in_ok-store.ensures.rests;
+  facts = c.in_ok-store.ensures.loaded;
+  synced = c.in_ok-store.ensures.settled;
+  opened = c.in_ok-store.ensures.opened;
+})

@@ -1,4 +1,4 @@
-use Rattle.std.proofs.Common.{◌≡◌, ◌+◌, ◌<◌, Some, drop, length, arith, ap, ◌∙◌, sym}
+use Rattle.std.proofs.Common.{◌<◌, drop, length, arith}
 use Rattle.std.proofs.lemmas.List.{length-drop}
 use Rattle.std.specs.String.{string_bytes}
 use Rattle.sync_rules.specs.Facts.{held_at}

@@ -1,6 +1,6 @@
 use Rattle.std.proofs.Common.{refl}
 use Rattle.store_commands.specs.Shown.{body_shown}
-use Rattle.store_commands.proofs.Looks.{looked, looked_not}
+use Rattle.store_commands.proofs.Looks.{looked_not}
 use Rattle.store_commands.proofs.Passing.{looked_on}
 use Rattle.store_commands.proofs.show.write_body.Goals as goal
 
@@ -15,6 +15,10 @@ returns-in_err-store g c =
 
 pub returns : goal.returns
 returns g c =
-    looked (g.C.Clients.meaning c.args.clients.now) (body_shown c.args.id.now) _ _ _ _ _
-    c.in_ok-store.store c.in_ok-store.ensures.run c.in_ok-store.ensures.rests
-    c.in_ok-store.ensures.loaded c.in_ok-store.ensures.settled c.print_body.ensures
+    c.write_body_loaded.ensures (g.C.Clients.meaning c.args.clients.now) c.args.disk.now (record {
+      run = c.in_ok-store.ensures.run;
+      rests = c.in_ok-store.ensures.rests;
+      facts = c.in_ok-store.ensures.loaded;
+      synced = c.in_ok-store.ensures.settled;
+      opened = c.in_ok-store.ensures.opened;
+    })

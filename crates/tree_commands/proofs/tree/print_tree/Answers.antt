@@ -1,5 +1,5 @@
 use Rattle.std.proofs.Common.{refl}
-use Rattle.store_commands.proofs.Looks.{looked, looked_not}
+use Rattle.store_commands.proofs.Looks.{looked_not}
 use Rattle.store_commands.proofs.Passing.{looked_on}
 use Rattle.tree_commands.specs.Trees.{tree_shown}
 use Rattle.tree_commands.proofs.tree.print_tree.Goals as goal
@@ -16,12 +16,15 @@ returns-in_err-store g c =
 
 pub returns : goal.returns
 returns g c =
-    let clients = g.C.Clients.meaning c.args.clients.now in
-    looked clients (tree_shown clients c.args.window.now) _ _ _ _ _ c.in_ok-store.store
-    c.in_ok-store.ensures.run c.in_ok-store.ensures.rests c.in_ok-store.ensures.loaded
-    c.in_ok-store.ensures.settled
-    (c.print_window.ensures clients c.in_ok-store.ensures.opened.ready.knows)
+    c.print_tree_loaded.ensures (g.C.Clients.meaning c.args.clients.now)
+    c.args.disk.now (record {
+      run = c.in_ok-store.ensures.run;
+      rests = c.in_ok-store.ensures.rests;
+      facts = c.in_ok-store.ensures.loaded;
+      synced = c.in_ok-store.ensures.settled;
+      opened = c.in_ok-store.ensures.opened;
+    })
 
-pub print_window-requires : goal.print_window-requires
-print_window-requires g c =
+pub print_tree_loaded-requires : goal.print_tree_loaded-requires
+print_tree_loaded-requires g c =
     (g.C.Clients.meaning c.args.clients.now, c.in_ok-store.ensures.opened.ready.knows)

@@ -1,5 +1,7 @@
-use Rattle.std.proofs.Common.{refl}
-use Rattle.store_commands.proofs.commit.settle.Goals as goal
+use Rattle.std.proofs.Common.{refl, ap, ◌∙◌}
+use Rattle.sync_store.specs.Store.{format_meant}
+use Rattle.store_commands.proofs.Serving.{ready_now, served_now}
+use Rattle.store_commands.proofs.commit.settle_loaded.Goals as goal
 
 pub returns-in-Ok-clause-settled : goal.returns-in-Ok-clause-settled
 returns-in-Ok-clause-settled g c =
@@ -23,3 +25,19 @@ returns-in-Err-DiskFault-clause-settled g c =
 pub returns-in-Err-DiskFault-clause-by : goal.returns-in-Err-DiskFault-clause-by
 returns-in-Err-DiskFault-clause-by g c =
     (rw c.in-Err-DiskFault.field-0-is at c.in-Err-DiskFault.ensures.fault) refl
+
+pub returns-in-Ok-clause-serves : goal.returns-in-Ok-clause-serves
+returns-in-Ok-clause-serves g c was =
+    let has = c.in-Ok.ensures.settled c.requires.ready.still_open in
+    served_now (g.C.Clients.meaning c.args.clients.now) c.settle.new.self
+    (g.D.Disk.tells c.settle.new.disk) (c.in-Ok.ensures.ready has.answer.0)
+    (has.comes.limit ∙ was.loaded.opened.limited) (ap format_meant has.comes.format ∙ was.short)
+    has.answer.1
+
+pub returns-in-Err-Memory-clause-serves : goal.returns-in-Err-Memory-clause-serves
+returns-in-Err-Memory-clause-serves g c was =
+    let has = rw c.in-Err-Memory.field-0-is at c.in-Err-Memory.ensures.settled
+    c.requires.ready.still_open in
+    ready_now (g.C.Clients.meaning c.args.clients.now) c.settle.new.self
+    (g.D.Disk.tells c.settle.new.disk) (c.in-Err-Memory.ensures.ready has.answer)
+    (has.comes.limit ∙ was.loaded.opened.limited) (ap format_meant has.comes.format ∙ was.short)
