@@ -34,7 +34,7 @@ pub enum Command {
     /// `tree GROUP FROM COUNT`: prints so many messages of the walk of a group's replies, from a
     /// place on.
     Tree(GroupId, u32, u32),
-    /// `audit`: reads the two files of a store once more by the definitions alone, and prints what
+    /// `audit`: reads the two files of a store a second time and in another way, and prints what
     /// their journal comes to.
     Audit,
     /// `say GROUP TIMESTAMP STANCE NAME MAJOR DESCRIPTOR`: says in a sharing group that its author

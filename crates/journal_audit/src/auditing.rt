@@ -31,9 +31,9 @@ fn audit_read<D: Disk, C: Clients>(
     report_of(alloc, clients, &taken)
 }
 
-/// Reads the two files of a store, of either format, and reports what their journal says by the
-/// definitions alone: a second opinion on what a store keeps. It syncs both files first, and writes
-/// nothing.
+/// Reads the two files of a store, of either format, and reports what their journal says: a second
+/// opinion on what a store keeps, by a reader of frames, a state and a search for the next step of
+/// its own. It syncs both files first, and writes nothing.
 /// A report comes exactly where the files stand for a journal, which is then legal; where it is
 /// settled, the good messages are as many as were delivered, and the bad ones as many as are
 /// invalid. `NoStore` comes exactly where no file has an open header, `Damaged` exactly where the
