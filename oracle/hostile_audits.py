@@ -3,20 +3,17 @@
 
     hostile_audits.py [COUNT]
 
-prints for each shape so many stores (100) of small sizes, drawn from seeds: a line with the bytes of the file, and a line with what is
-told of it. The stores are those of the model of run_model.py, and what is told of them is counted in audits.py by the rules. Behind each
+prints for each shape so many stores (100) of small sizes, drawn from seeds, with what an audit tells of each; .ci/drawn plays them.
+The stores are those of the model of run_model.py, and what is told of them is counted in audits.py by the rules. Behind each
 store stands one that lacks a step: the first of a settling batch, or the whole batch, so that what follows may not stand there.
 """
-import random
-import sys
-
 from audits import Audited
 from digests import message_id
-from journal import SHORT, entries, frames
+from drawn import draws, journal, looked, main
+from journal import SHORT, entries
 from old_stores import NOTES, THREADS, bare
 from run_model import ACK, BATCH, INTERACTIVE, INVISIBLE, OFFER, REQUEST, SHARED, VISIBLE, message_record, record_bytes
 from sharing import NOTE, THREAD
-from store_file import framed, header
 
 
 def person_with(levels):
@@ -89,6 +86,7 @@ def waits(shape):
         for message in shape(draw):
             person.hears(0, message_record(*message))
         return person
+    store.__name__ = shape.__name__
     return store
 
 
@@ -145,7 +143,7 @@ SHAPES = [waits(chain), waits(star), waits(fan), invalid_beside, asks_again]
 
 # ---- a step is lacking
 
-SETTLING = (8, 9, 10)
+SETTLING, DAMAGED = (8, 9, 10), 5
 
 
 def lacking(payloads, draw):
@@ -167,17 +165,13 @@ def lacking(payloads, draw):
 
 
 def rows(count):
-    for number, shape in enumerate(SHAPES):
-        for seed in range(count):
-            draw = random.Random(1_000_000 * number + seed)
-            payloads = shape(draw).batches
-            yield framed(header(SHORT, 1), payloads), Audited(payloads).line()
-            other = lacking(payloads, draw)
-            if other:
-                yield framed(header(SHORT, 1), other[0]), other[1]
+    for shape, draw in draws(SHAPES, count):
+        payloads = shape(draw).batches
+        yield looked(shape.__name__, journal(payloads), 'audit', Audited(payloads).line())
+        other = lacking(payloads, draw)
+        if other:
+            yield looked(shape.__name__, journal(other[0]), 'audit', err=other[1], status=DAMAGED)
 
 
 if __name__ == '__main__':
-    for content, line in rows(int(sys.argv[1]) if len(sys.argv) > 1 else 100):
-        print(content.hex())
-        print(line, end='')
+    main(rows)
