@@ -8,7 +8,7 @@ use Rattle.sync_course.specs.Links as course_links
 use Rattle.sync_course.specs.Owing.{Owing, paid}
 use Rattle.sync_course.specs.Turns.{Place, RunStep, Terms}
 use Rattle.sync_course.specs.Acts.{Act}
-use Rattle.sync_node.specs.Cuts.{CutBy}
+use Rattle.sync_node.specs.Cuts.{CutBy, is_of_disk}
 use Rattle.sync_node.specs.declared.fault.Fault.{Fault}
 use Rattle.sync_node.specs.declared.fault.Fault.TheVariants as fault
 use Rattle.sync_node.specs.Went.{Stopped}
@@ -33,7 +33,7 @@ module _ (clients : Meaning) (terms : Terms) where
 -- the calls of the disk, where a run was broken off
 cut_of : {P : Type 0} (clients : Meaning) (step : P → Act → P → Type 0) (Has : P → Type 0) (p : P)
     (s s' : StoreValue) (o o' : Outside) (e : Fault) → Stopped clients step Has p s s' o o' e
-    → CutBy e s o o'
+    → CutBy (is_of_disk e) s o o'
 cut_of clients step Has p s s' o o' fault.Memory stops = (s'.end, stops.went.did.appends)
 cut_of clients step Has p s s' o o' fault.Full stops = (s'.end, stops.went.did.appends)
 cut_of clients step Has p s s' o o' fault.DiskFault stops = stops.did.breaks
@@ -54,7 +54,7 @@ module _ (clients : Meaning) (first : ℕ) (links links' : List Link) (s s' : St
   }
 
   pub turn_breaks : (e : Fault) → RoundStopped clients first links links' s s' o o' e
-      → BreaksTurn clients e first links s o o'
+      → BreaksTurn clients (is_of_disk e) first links s o o'
   turn_breaks e w = record {
     stops = λ terms heard moved still made same read more.
         let stopped = (w.stops terms heard moved still made same read more).1 in
@@ -65,7 +65,7 @@ module _ (clients : Meaning) (first : ℕ) (links links' : List Link) (s s' : St
 pub beginning_breaks : (clients : Meaning) (session : Session) (links links' : List Link)
     (s s' : StoreValue) (o o' : Outside) (e : Fault)
     → BeginStopped clients session links links' s s' o o' e
-    → BreaksBeginning clients e session links s o o'
+    → BreaksBeginning clients (is_of_disk e) session links s o o'
 beginning_breaks clients session links links' s s' o o' e w = record {
   stops = λ terms left heard moved still made.
       let stopped = w.stops terms left heard moved still made in

@@ -16,7 +16,6 @@ use Rattle.sync_course.specs.Links as course_links
 use Rattle.sync_course.specs.Links.{is_going, is_nonce_kept, is_sent_to}
 use Rattle.sync_course.specs.Reading.{HasRead, IsReading}
 use Rattle.sync_node.specs.Cuts.{CutBy}
-use Rattle.sync_node.specs.declared.fault.Fault.{Fault}
 use Rattle.sync_node.specs.declared.link.Link.{Link}
 use Rattle.sync_course.specs.declared.ends.LinkEnd.{LinkEnd}
 use Rattle.sync_course.specs.declared.ends.LinkEnd.TheVariants as link_end
@@ -140,25 +139,25 @@ pub record MakesTurn (clients : Meaning) (first : ℕ) (links links' : List Link
       → is_at_end terms (place_at Between links heard moved still made s.state.facts) ≡ false
       → TurnMade clients terms links links' s s' o o' heard moved still made quiet
 
--- the turn was broken off by a fault, whatever its links are then
-pub record BreaksTurn (clients : Meaning) (e : Fault) (first : ℕ) (links : List Link) (s : StoreValue)
+-- the turn was broken off, where the disk failed or not, whatever its links are then
+pub record BreaksTurn (clients : Meaning) (disk : Bool) (first : ℕ) (links : List Link) (s : StoreValue)
     (o o' : Outside) : Type 0 where
   pub stops : (terms : Terms) (heard : ℕ → List ℕ) (moved : Bool) (still made : ℕ)
       → terms.first ≡ first → AllRead heard links
       → is_at_end terms (place_at Between links heard moved still made s.state.facts) ≡ false
       → RunBreaks clients terms (place_at Between links heard moved still made s.state.facts) s o o'
-      × CutBy e s o o'
+      × CutBy disk s o o'
 
 -- ---- a session that begins on the next link
 
--- the call was broken off by a fault, whatever its links are then
-pub record BreaksBeginning (clients : Meaning) (e : Fault) (session : Session) (links : List Link)
+-- the call was broken off, where the disk failed or not, whatever its links are then
+pub record BreaksBeginning (clients : Meaning) (disk : Bool) (session : Session) (links : List Link)
     (s : StoreValue) (o o' : Outside) : Type 0 where
   pub stops : (terms : Terms) (left : List Session) (heard : ℕ → List ℕ) (moved : Bool)
       (still made : ℕ)
       → RunBreaks clients terms
       (place_at (Attaches (session ∷ left)) links heard moved still made s.state.facts) s o o'
-      × CutBy e s o o'
+      × CutBy disk s o o'
 
 -- ---- redundant links
 
