@@ -34,7 +34,7 @@ import sys
 
 from audits import Audited, rows as audit_rows
 from digests import group_id, message_id
-from journal import SHORT, WHOLE, frames, groups_of, respelled
+from journal import SHORT, WHOLE, frames, gathered, groups_of, respelled
 from migration import migrated
 from old_stores import NOTES, SCENES as OLD_SCENES, THREADS, adds_contact, bare, heard, held, looks_at, show_text
 from run_model import BATCH, Journal, Store, VISIBLE, calls_of_clear, message_record, record_bytes
@@ -192,8 +192,10 @@ CRASH, FAIL = ('old', 'new', 'zero', 'ones'), ('left',)
 
 def stores_of(begun, payloads, adds):
     """The payloads of each journal that a command leads through, the one before it first; None where there is no store."""
-    before = [list(payloads)] if begun else [None, []]
-    return before + [list(payloads) + adds[:count] for count in range(1, len(adds) + 1)]
+    stores = [list(payloads)] if begun else [None, []]
+    for group in gathered(adds):
+        stores.append(stores[-1] + group)
+    return stores
 
 
 def front_of(spelled, generation, payloads):
@@ -545,7 +547,7 @@ WAITING = 599
 
 
 def play_cascade(text):
-    """Messages that wait for one which arrives last: their settling takes three batches, and is broken off behind the first."""
+    """Messages that wait for one which arrives last: their settling takes three batches, which are added together or not at all."""
     person = bare(THREAD)
     person.share(0, THREADS, VISIBLE)
     person.attach(0, BATCH)
@@ -563,8 +565,10 @@ def play_cascade(text):
     assert [len(it) // 5 for it in added[:-1]] == [256, 256, 89]
     # a load syncs both files, reads two headers and the length, each frame by two calls, and the closed gate
     load = 2 + 2 + 1 + 2 * len(before) + 1
-    first = framed(header(SHORT, 1), before + added[:1])
-    text.tell('run', 'contact', Outcome(status=DISK_FAULT, err=b'disk fault\n', after=[(0, first)]), f'faildisk {load + APPEND}')
+    # behind the closed gate of the first all three are written before it is opened
+    front, steps = framed(header(SHORT, 1), before)[:-1], framed(b'', added[:-1])
+    for call, left in ((0, front + CLOSED), (2, front + CLOSED + steps[1:]), (APPEND, front + steps)):
+        text.tell('try', 'contact', Outcome(status=DISK_FAULT, err=b'disk fault\n', after=[(0, left)]), f'faildisk {load + call}')
     text.tell('run', 'contact', Outcome(out.encode(), after=[(0, framed(header(SHORT, 1), before + added))]))
 
 

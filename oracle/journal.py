@@ -44,6 +44,23 @@ def groups_of(content):
     return groups
 
 
+# how many bytes the longest frame takes
+LONGEST = 5 + 65_536
+# with which byte a payload of steps begins
+STEPS = (8, 9, 10)
+
+
+def gathered(payloads):
+    """The groups in which a command adds these: steps join what is before them, unless the longest frame would find no room behind it."""
+    groups, size = [], 0
+    for payload in payloads:
+        if not groups or payload[0] not in STEPS or size + LONGEST > GROUP:
+            groups, size = groups + [[]], 0
+        groups[-1].append(payload)
+        size += 5 + len(payload)
+    return groups
+
+
 def journal_of(content):
     """The front of a file that has its journal, without the closed gate."""
     end = HEADER

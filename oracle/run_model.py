@@ -11,7 +11,7 @@ import hashlib
 import sys
 
 from digests import group_id, message_id
-from journal import SHORT, WHOLE, entries, entry_of, format_of, frames, groups_of, is_spelled, number, respelled
+from journal import SHORT, WHOLE, entries, entry_of, format_of, frames, gathered, groups_of, is_spelled, number, respelled
 from store_file import CLOSED, HEADER, OPEN, framed, header
 
 MAX64 = 2**64 - 1
@@ -534,7 +534,8 @@ class Store:
             twin.migrate()
             calls += 4 * groups_of(twin.files[twin.at])
         twin.settle()
-        calls += 4 * (frames_of(twin) - read) + calls_of_clear(twin.files[1 - twin.at])
+        steps = [payload for _, payload in list(frames(twin.files[twin.at]))[read:]]
+        calls += 4 * len(gathered(steps)) + calls_of_clear(twin.files[1 - twin.at])
         twin.compact()
         return calls + 4 + 4 * groups_of(twin.files[twin.at])
 
@@ -553,6 +554,10 @@ class Store:
     def settle(self):
         for batch in self.journal.settling():
             self.write(batch)
+
+    def extend(self, batch):
+        self.commit(batch)
+        self.settle()
 
 
 # ---- a host and a run
@@ -767,8 +772,7 @@ class Node(Run):
         self.store.commit([('level', contact, group, level)])
 
     def post(self, group, timestamp, body):
-        self.store.commit([('author', (group, timestamp, body))])
-        self.store.settle()
+        self.store.extend([('author', (group, timestamp, body))])
 
     # ---- sessions
     def attach(self, contact, mode, latency=1_000, nonce=None):

@@ -67,7 +67,7 @@ def cascade():
         turns += ['turn 0', *['swap 0 0', 'carry 0 0'] * size, 'turn 1']
     front = [*THREAD, *posts, 'link 0 1 batch 1000', *turns, 'carry 0 0']
     case('a cascade of 599 replies', *front, 'turn 1')
-    for call in (3, 7, 8):
+    for call in (3, 6, 7):
         case(f'a cascade is stopped at call {call}', *front, f'stop 1 {call} old', 'turn 1')
 
 
@@ -92,7 +92,7 @@ def stops():
     case('a second stop takes the place of the first', *PAIR, 'stop 0 0 old', 'stop 0 9 old', 'post 0 0 5 - hello')
     case('a stop that is far away', *PAIR, 'stop 0 18446744073709551615 old', 'post 0 0 5 - hello')
     case('a stop is for one device', *PAIR, 'stop 1 0 old', 'post 0 0 5 - hello')
-    case('a stop is armed until it is reached', *PAIR, 'stop 0 8 old', 'post 0 0 5 - hello', 'post 0 0 6 - more')
+    case('a stop is armed until it is reached', *PAIR, 'stop 0 4 old', 'post 0 0 5 - hello', 'post 0 0 6 - more')
     for call in range(30):
         case(f'a restart before a stop at call {call}', *HELLO, f'stop 0 {call} new', 'restart 0', 'post 0 0 6 - more')
     case('a post that was stopped has its label', *THREAD, 'stop 0 1 old', 'post 0 0 5 - lost', 'post 0 0 6 - kept',

@@ -12,7 +12,7 @@ import re
 import sys
 
 from digests import group_id, message_id
-from journal import SHORT, entries, entry_of, frames, number
+from journal import GROUP, LONGEST, SHORT, entries, entry_of, frames, number
 from run_model import CLIENTS, Journal, Node, Store, entry_bytes
 from scripts import generated, has_form, is_number
 from store_file import CLOSED, HEADER, OPEN
@@ -89,10 +89,10 @@ class Facts(Journal):
 
 
 class DiskStore(Store):
-    """A store over a disk: it is loaded, and each batch is four calls."""
+    """A store over a disk: it is loaded, and each group of batches is four calls."""
 
     def __init__(self, disk):
-        self.disk, self.journal, self.end = disk, Facts(), len(HEADER) + 1
+        self.disk, self.journal, self.end, self.waiting = disk, Facts(), len(HEADER) + 1, b''
         for _ in ('sync of file 0', 'sync of file 1', 'header of file 0', 'header of file 1', 'length'):
             disk.call()
         for at, payload in frames(bytes(disk.content)):
@@ -106,14 +106,35 @@ class DiskStore(Store):
         disk.call()
         self.settle()
 
-    def write(self, batch):
+    def wait(self, batch):
+        if len(self.waiting) + LONGEST > GROUP:
+            self.flush()
         payload = b''.join(entry_bytes(entry, self.journal.name) for entry in batch)
-        framed = len(payload).to_bytes(4, 'big') + payload + CLOSED
-        self.disk.write(self.end, framed)
-        self.disk.sync()
-        self.disk.write(self.end - 1, OPEN)
-        self.disk.sync()
-        self.end += len(framed)
+        self.waiting += OPEN + len(payload).to_bytes(4, 'big') + payload
+
+    def flush(self):
+        if self.waiting:
+            self.disk.write(self.end, self.waiting[1:] + CLOSED)
+            self.disk.sync()
+            self.disk.write(self.end - 1, OPEN)
+            self.disk.sync()
+            self.end += len(self.waiting)
+            self.waiting = b''
+
+    def write(self, batch):
+        self.wait(batch)
+        self.flush()
+
+    def settle(self):
+        for batch in self.journal.settling():
+            self.wait(batch)
+        self.flush()
+
+    def extend(self, batch):
+        self.wait(batch)
+        for entry in batch:
+            self.journal.apply(entry)
+        self.settle()
 
 
 # ---- a device
@@ -126,8 +147,7 @@ class Device(Node):
         self.set_clock(clock)
 
     def add(self, entry):
-        self.store.commit([entry])
-        self.store.settle()
+        self.store.extend([entry])
 
     def text(self, place, is_shown):
         journal = self.store.journal

@@ -7,6 +7,7 @@ use Rattle.sync_rules.specs.Steps.{IsSettled}
 use Rattle.sync_store.specs.declared.fault.StoreFault.{StoreFault}
 use Rattle.sync_store.specs.declared.fault.StoreFault.TheVariants as fault
 use Rattle.sync_store.specs.Gathering.{SettlesOn}
+use Rattle.sync_store.specs.Groups.{IsGathering}
 use Rattle.sync_store.proofs.Errors.{err_is}
 use Rattle.sync_store.proofs.FitSteps.{true≢false}
 use Rattle.sync_store.proofs.Gathered.{gathering_still, underway_begins, underway_more, underway_then}
@@ -113,7 +114,7 @@ returns-in_err-make_room-clause-gathering g c still =
     let w = c.batches.invariant.gathering in
     let failed = room_failed clients w.before s2 w.more c.in_err-make_room.field-0.0 o1 o2
     (c.in_err-make_room.ensures.makes w.before w.kept w.more w.gathered) in
-    true≢false s2.closed failed.1 still
+    true≢false {A = IsGathering clients s2 o2.files} s2.closed failed.1 still
 
 pub returns-in_err-make_room-clause-run : goal.returns-in_err-make_room-clause-run
 returns-in_err-make_room-clause-run g c =
