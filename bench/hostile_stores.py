@@ -71,7 +71,7 @@ def replies(shape, count):
 
 def fan(count):
     """Messages that name the same 255, which come one by one behind them."""
-    roots = [struct.pack('>BI', 0, n) for n in range(NAMES)]
+    roots = [b'\0%d' % n for n in range(NAMES)]
     ids = [message_id(THREAD, n, body) for n, body in enumerate(roots)]
     body = bytes([NAMES]) + b''.join(ids)
     yield b'\1\0'

@@ -1,8 +1,8 @@
 #!/usr/bin/env bash
 # A journal of format 1 that is written anew in format 2. Files are made by oracle/store_file.py, and each file that a run leaves is
 # compared with what that module says.
-# - A store of COUNT (200,000) notes of 200 bytes over a disk in memory: the least processor time of RUNS (3) runs of the migration
-#   alone, as the part `store` of crates/bench takes it, against two loads of the same journal.
+# - A store of COUNT (200,000) notes of 200 bytes, read into a disk in memory: the least processor time of RUNS (3) runs of the
+#   migration alone, as the part `store` of crates/bench takes it, against two loads of the same journal.
 # - `contact` over such a store on real files, in a folder of its own on a disk, beside `body` of an unknown id, which loads the
 #   store and refuses, and a bare program that makes the same writes and syncs (bench/bare_append.c): medians of RUNS runs, on the
 #   clock and of the processor, each with the start of its process. What the program takes beside its load is compared. With COUNT
@@ -26,9 +26,10 @@ from statistics import median
 
 from journal import ACKS, SEND, SHORT, WHOLE, respelled
 from measure import least, run
-from store_file import GROUP, NEXT_HEADER, OLD_HEADER, Note, first_batches, frame, framed, steps
+from store_file import GROUP, NEXT_HEADER, OLD_HEADER, Note, file_bytes, first_batches, frame, framed, old_file_bytes, steps
 
 bsp, folder, runs, count = sys.argv[1], sys.argv[2], int(sys.argv[3]), int(sys.argv[4])
+PROGRAM = os.path.abspath('crates/bench/out/bench')
 SIZE, HEARD, AT_ONCE = 200, 20_000, 1_000
 UNKNOWN, CONTACT = '0' * 64, b'\1\1'
 
@@ -72,17 +73,19 @@ def timed(words, given=b'', status=0):
 
 # ---- over a disk in memory
 
-def step(name, end):
+def step(here, name, end):
     """One run, whose seconds are those of the step alone, as the program tells them."""
-    told = run('crates/bench/out/bench', 'store', name, str(count), str(SIZE), '1', want=f'{count} held, {count} delivered, {end} bytes\n')
+    told = run(PROGRAM, 'store', name, folder=here, want=f'{count} held, {count} delivered, {end} bytes\n')
     return told._replace(seconds=int(told.err) / 1e6)
 
 
 def compare_memory():
-    # the header, the group without a descriptor, the contact, its level, and each note with its steps; the closed gate
-    begun, said = 14 + 17 + 7 + 40 + 1, 5 + 43 + SIZE
-    old, new = begun + count * (said + 71), begun + count * (said + 15)
-    (load, _), (migrate, _) = least(runs, lambda: step('load_old', old), lambda: step('migrate', new))
+    notes = [Note(time, SIZE) for time in range(count)]
+    old, new = old_file_bytes(notes), len(file_bytes(notes))
+    with tempfile.TemporaryDirectory(dir='/dev/shm') as here:
+        with open(os.path.join(here, 'bsp.0'), 'wb') as file:
+            file.write(old)
+        (load, _), (migrate, _) = least(runs, lambda: step(here, 'file', len(old)), lambda: step(here, 'migrate', new))
     print(f'{count} messages in memory: a load {load:.3f} s, the migration {migrate:.3f} s', flush=True)
     return f'ratio migrate_two_loads {migrate / (2 * load):.2f}'
 

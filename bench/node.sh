@@ -1,126 +1,118 @@
-#!/bin/sh
-# A node on whose one link MESSAGE records of 200 bytes are heard, or messages with bodies of 200 bytes are sent, by batch
-# sessions over a host in memory, beside a store that makes the same commits and the same sends over the same kind of host.
-# In the same run of the program a turn of the one follows a turn of the other. Each time is the least processor time of RUNS (5)
-# runs, which the program takes of the turns alone; the store's has no reading of records. Growth, of a node alone, is over linear.
-# The memory of a node beside its store is the peak of a run with it, less that of a run with the store alone. Every run must come
-# to the same journal's file and the same bytes sent as are computed here. The last lines are `ratio NAME VALUE`.
-set -eu
-cd "$(dirname "$0")/.."
-.ci/built bench || exit 1
-exec env PYTHONPATH=bench:oracle PYTHONDONTWRITEBYTECODE=1 python3 - "${RUNS:-5}" <<'PY'
-import hashlib, struct, sys
-from multiprocessing import get_context
+#!/usr/bin/env bash
+# `bsp sync` on one link, in batch mode, over files in memory: MANY (20,000) notes of 200 bytes are heard on its standard input, or
+# sent on its standard output. Beside it stand a bare program that makes the same writes and syncs (bench/bare_append.c) and a load of
+# the store that it leaves, which has the work of each batch but the node's: the least processor time of RUNS (5) runs of each, in
+# turns, each with the start of its process. Growth, of `sync` alone from FEW (5,000) notes, is over linear. What a run leaves in the
+# file and on its output is compared with what the rules say (oracle/store_file.py). The last lines are `ratio NAME VALUE`.
+cd "$(dirname "$0")/.." || exit 1
+bsp=${BSP:-$PWD/crates/bsp/out/bsp}
+[ -x "$bsp" ] || .ci/built bsp || exit 1
+folder=$(mktemp -d /dev/shm/node.XXXXXX) || exit 1
+trap 'rm -rf "$folder"' EXIT
+cc -O2 -o "$folder/bare_append" bench/bare_append.c || exit 1
+PYTHONDONTWRITEBYTECODE=1 PYTHONPATH=bench:oracle python3 - "$bsp" "$folder" "${RUNS:-5}" "${FEW:-5000}" "${MANY:-20000}" <<'PY'
+import os, struct, sys
 
-from digests import group_id, message_id
+from journal import ACKS, SEND, frames
 from measure import least, run
-from store_file import CLOSED, HEADER, OPEN, frame, steps
+from run_model import ACK, VERSIONS, message_record, record_bytes
+from store_file import GROUP, Note, file_bytes, frame, steps
 
-RUNS, PIECE, MOST_OUTS, FEW, MANY, LENGTH = int(sys.argv[1]), 65_536, 64, 5_000, 20_000, 200
-GROUP = group_id(b"note", 0, b"")
-BODY = b"a" * LENGTH
-VERSIONS = b"\0\4\0\1\0"
-
-
-def record(kind, payload):
-    return struct.pack(">BBH", 0, kind, len(payload)) + payload
-
-
-def name(n):
-    """How an entry names the message that arrived as the nth, from 0."""
-    return struct.pack(">I", n)
+bsp, folder, runs, few, many = *sys.argv[1:3], *map(int, sys.argv[3:])
+SIZE, LATENCY = 200, 600_000
+STORE, SENT = os.path.join(folder, 'bsp.0'), os.path.join(folder, 'sent')
+GREETING = record_bytes(VERSIONS, b'\0')
+# a load and nothing else: there is no such contact
+LOAD = 'sh', '-c', f'"$0" share 255 {GROUP.hex()} visible 2>&1 || test $? = 4', bsp
+BEGINS = struct.pack('>BIBBIB', 4, 0, 0, 1, LATENCY, 0)
 
 
-def before(way, ids):
-    """The batches before the session's first record."""
-    yield b"\1\0"
-    yield b"\2\4note" + bytes(6)
-    yield b"\3\0" + GROUP + b"\2"
-    if way == "send":
-        for n in range(len(ids)):
-            yield b"\6" + GROUP + struct.pack(">QH", n, LENGTH) + BODY
-            yield steps(name(n))
-    yield b"\4" + struct.pack(">IBBIB", 0, 0, 1, 1, 0)
+def expect(holds, what):
+    if not holds:
+        sys.exit(f'wrong: {what}')
 
 
-def out(kind, payload):
-    return b"\x0f" + struct.pack(">IQB", 0, 0, kind) + payload
+def put(path, content):
+    with open(path, 'wb') as file:
+        file.write(content)
 
 
-def heard(ids):
-    """The batches of the messages that are heard, and what is sent then: an ACK behind each piece."""
-    size, acked = len(record(1, GROUP + bytes(8) + BODY)), 0
-    turn = [-(-(n + 1) * size // PIECE) for n in range(len(ids))] + [None]
-    for n in range(len(ids)):
-        arrive = b"\7" + bytes(4) + GROUP + struct.pack(">QH", n, LENGTH) + BODY
-        yield b"\5" + struct.pack(">IQ", 0, n) + arrive, b""
-        yield steps(name(n)), b""
-        if turn[n] != turn[n + 1]:
-            names, told, acked = map(name, range(acked, n + 1)), ids[acked:n + 1], n + 1
-            yield out(0, struct.pack(">H", len(told)) + b"".join(names)), record(0, b"".join(told))
+def content_of(path):
+    with open(path, 'rb') as file:
+        return file.read()
 
 
-def sent(ids):
-    for n in range(len(ids)):
-        yield out(3, name(n)), record(1, GROUP + struct.pack(">Q", n) + BODY)
+class Way:
+    """What is heard or sent: the store before, the input, and what a run left of both."""
 
+    def __init__(self, name, count):
+        self.notes = [Note(number, SIZE) for number in range(count)]
+        self.name, self.count, self.hears = name, count, name == 'hear'
+        self.before = file_bytes([] if self.hears else self.notes)
+        self.records = b''.join(message_record(GROUP, note.time, note.body) for note in self.notes)
+        self.given = GREETING + self.records if self.hears else b''
+        self.run()
+        self.left = content_of(STORE)
+        self.check(content_of(SENT))
 
-def digest(data):
-    return hashlib.blake2b(data, digest_size=32).hexdigest()
+    def run(self):
+        """A run of `sync`."""
+        put(STORE, self.before)
+        put(SENT + '.in', self.given)
+        with open(SENT + '.in', 'rb') as source, open(SENT, 'wb') as sink:
+            words = bsp, 'sync', '1000000', '1', '0', 'batch', str(LATENCY), 'std'
+            return run(*words, source=source, sink=sink, folder=folder)
 
+    def added(self):
+        return [payload for at, payload in frames(self.left) if at >= len(self.before) - 1]
 
-def wanted(way, count):
-    """What a run must print."""
-    ids = [message_id(GROUP, n, BODY) for n in range(count)]
-    file, link = bytearray(HEADER), bytearray(VERSIONS)
-    for payload in before(way, ids):
-        file += OPEN + frame(payload)[:-1]
-    for payload, spelled in heard(ids) if way == "hear" else sent(ids):
-        file += OPEN + frame(payload)[:-1]
-        link += spelled
-    file += CLOSED
-    return f"{count} held, {count} delivered, {len(file)} bytes {digest(file)}, {len(link)} sent {digest(link)}\n"
+    def check(self, sent):
+        """The batches that were added, and what was sent: behind what was heard, acknowledgements in order."""
+        outs = [payload for payload in self.added() if payload[0] == 15]
+        kind = ACKS if self.hears else SEND
+        expect(all(payload[13] == kind for payload in outs), 'outputs')
+        order = b''.join(struct.pack('>I', number) for number in range(self.count))
+        names = b''.join(payload[16:] if self.hears else payload[14:] for payload in outs)
+        expect(names == order, 'the order of outputs')
+        others = [payload for payload in self.added() if payload[0] != 15]
+        expect(others == [BEGINS, *(self.taken() if self.hears else ())], 'the batches beside outputs')
+        expect(sent == GREETING + (self.acknowledged(outs) if self.hears else self.records), 'the bytes sent')
 
+    def taken(self):
+        yield struct.pack('>BIQ', 5, 0, 0)
+        for number, note in enumerate(self.notes):
+            yield struct.pack('>BIQ', 5, 0, number + 1) + b'\7' + struct.pack('>I', 0) + note.said()[1:]
+            yield steps(struct.pack('>I', number))
 
-# in another process, since the peak of a run counts from that of the process that begins it
-with get_context("fork").Pool(1) as pool:
-    asked = [(way, count) for way in ("hear", "send") for count in (FEW, MANY, 2 * MANY)]
-    WANTED = {words: pool.apply(wanted, words) for words in asked}
+    def acknowledged(self, outs):
+        ids, told = iter(note.id for note in self.notes), b''
+        for payload in outs:
+            told += record_bytes(ACK, b''.join(next(ids) for _ in range(len(payload[16:]) // 4)))
+        return told
 
+    def bare(self):
+        """The same writes and syncs."""
+        put(STORE, self.before)
+        put(SENT + '.in', b''.join(map(frame, self.added())))
+        with open(SENT + '.in', 'rb') as source:
+            told = run(os.path.join(folder, 'bare_append'), 'bsp.0', 'bsp.1', source=source, folder=folder)
+        expect(content_of(STORE) == self.left, 'the bare program')
+        return told
 
-def step(who, way, count):
-    return run("crates/bench/out/bench", "node", who, way, str(count), str(LENGTH), want=WANTED[way, count])
-
-
-def timed(who, way, count, place):
-    """Runs whose seconds are those of the node (place 0) or of the store (place 1), as the program tells them."""
-    def once():
-        told = step(who, way, count)
-        return told._replace(seconds=int(told.err.split()[place]) / 1e6)
-    return once
-
-
-def both(way):
-    """The least seconds of a node and of the store, each a turn behind the other."""
-    pairs = [[int(word) / 1e6 for word in step("both", way, MANY).err.split()] for _ in range(RUNS)]
-    return min(pair[0] for pair in pairs), min(pair[1] for pair in pairs)
-
-
-def beside(way, count):
-    """The least peak of memory with a node, less that with a store alone; pages and the set-up blur it."""
-    peaks = [min(step(who, way, count).memory for _ in range(RUNS)) for who in ("node", "store")]
-    return peaks[0] - peaks[1]
+    def load(self):
+        """A load of what a run leaves."""
+        put(STORE, self.left)
+        return run(*LOAD, folder=folder, want='refused: unknown contact\n')
 
 
 lines = []
-for way in ("hear", "send"):
-    ours, theirs = both(way)
-    (short, _), (long, _) = least(RUNS, timed("node", way, FEW, 0), timed("node", way, MANY, 0))
-    print(f"{way}: {MANY} messages of {LENGTH} bytes: node {ours:.3f} s, {ours / MANY * 1e6:.2f} us a message, store {theirs:.3f} s")
-    print(f"{way}, node alone: {FEW} messages {short:.3f} s, {MANY} messages {long:.3f} s")
-    for count in (MANY, 2 * MANY):
-        print(f"{way}: {count} messages: a node with one link has {beside(way, count)} bytes of memory beside its store")
-    lines.append(f"ratio {way} {ours / theirs:.2f}")
-    lines.append(f"ratio {way}_growth {long / short * FEW / MANY:.3f}")
-print("\n".join(lines))
+for name in ('hear', 'send'):
+    short, long = Way(name, few), Way(name, many)
+    asked = least(runs, long.run, long.bare, long.load, short.run)
+    ours, theirs, load, start = (seconds for seconds, _ in asked)
+    print(f'{name}: {many} notes of {SIZE} bytes: sync {ours:.3f} s, the bare program {theirs:.3f} s, a load of what is left '
+          f'{load:.3f} s; {few} notes: sync {start:.3f} s', flush=True)
+    lines.append(f'ratio {name} {ours / (theirs + load):.2f}')
+    lines.append(f'ratio {name}_growth {ours / start * few / many:.3f}')
+print('\n'.join(lines))
 PY

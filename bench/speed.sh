@@ -37,8 +37,9 @@ ROWS = [
         '{post_20000_sqlite:.1f}; {load_of_post_1:.2f}, {load_of_post_1000:.2f}, {load_of_post_20000:.2f}',
         f'{BARE}; these over SQLite {{post_1_sqlite / post_1_bare:.1f}}, {{post_1000_sqlite / post_1000_bare:.1f}}, '
         '{post_20000_sqlite / post_20000_bare:.1f}'),
-    Row('node', 'node.sh', '20,000 messages of 200 bytes heard on a link, and as many sent, by a node over the same commits and sends by '
-        'its store alone', '{hear:.2f}, {send:.2f}', '1 but for noise: the store alone'),
+    Row('node', 'node.sh', '20,000 notes of 200 bytes heard by `sync` on its standard input, and as many sent on its output, in files in '
+        'memory, of the processor, over a bare program with the same writes and syncs and a load of what is left', '{hear:.2f}, {send:.2f}',
+        '1: the writes of each batch, and the digest and the state of each message'),
     Row('sync', 'sync.sh', '20,000 notes of 200 bytes, and 2,000 of 32,000, from one store to another over a socket, over a bare program '
         'with the same writes and syncs; over `git fetch` of as many commits',
         '{sync_small_bare:.2f}, {sync_large_bare:.2f}; {sync_small_git:.1f}, {sync_large_git:.1f}',

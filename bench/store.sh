@@ -1,9 +1,9 @@
 #!/bin/sh
 # A store of notes on a disk in memory: commits with their settling, loads, and the memory of held messages. Each time is the least
-# processor time of RUNS (5) runs, which the program takes of that step alone. A load is compared with `b2sum -l 256` of the same
-# journal's file in a folder in memory, and with computing the ids of its messages alone; growth is over linear. The group is shared
-# with no contact, and once more with CONTACTS (1). The last lines are `ratio NAME VALUE`, and `memory NAME VALUE` of the bytes that
-# a held message takes beside its body.
+# processor time of RUNS (5) runs, which the program takes of that step alone; the file of a load is made here and read before. A load
+# is compared with `b2sum -l 256` of the same journal's file in a folder in memory, and with computing the ids of its messages alone;
+# growth is over linear. The group is shared with no contact, and once more with CONTACTS (1). The last lines are `ratio NAME VALUE`,
+# and `memory NAME VALUE` of the bytes that a held message takes beside its body: of a load beside what only reads the file.
 set -eu
 cd "$(dirname "$0")/.."
 .ci/built bench || exit 1
@@ -15,6 +15,7 @@ from measure import least, run, run_silent
 from store_file import CLOSED, HEADER, OPEN, frame, steps
 
 runs, some = int(sys.argv[1]), int(sys.argv[2])
+PROGRAM = os.path.abspath("crates/bench/out/bench")
 GROUP = group_id(b"note", 0, b"")
 
 
@@ -45,10 +46,15 @@ def write_journal(path, count, length, contacts):
         return file.tell(), f"{total:064x}\n"
 
 
-def step(name, count, length, contacts, want):
+def step(want, *words, folder=None):
     """One run, which must print what is wanted; its seconds are those of the step alone, as the program tells them."""
-    told = run("crates/bench/out/bench", "store", name, str(count), str(length), str(contacts), want=want)
+    told = run(PROGRAM, "store", *words, folder=folder, want=want)
     return told._replace(seconds=int(told.err) / 1e6)
+
+
+def planned(name, count, length, contacts, want):
+    """A step over messages that the program makes."""
+    return step(want, name, str(count), str(length), str(contacts))
 
 
 def told(count, end):
@@ -61,11 +67,18 @@ def hashed(path):
 
 lines = []
 with tempfile.TemporaryDirectory(dir="/dev/shm") as folder:
-    path = os.path.join(folder, "bsp.0")
+    def loaded(count, length, contacts):
+        """A folder with the file of so many messages, its length, and the sum of their ids."""
+        here = os.path.join(folder, f"{count} {length} {contacts}")
+        os.makedirs(here, exist_ok=True)
+        end, names = write_journal(os.path.join(here, "bsp.0"), count, length, contacts)
+        return here, end, names
 
     def timed(name, count, contacts):
-        end, _ = write_journal(path, count, 200, contacts)
-        return lambda: step(name, count, 200, contacts, told(count, end))
+        here, end, _ = loaded(count, 200, contacts)
+        if name == "load":
+            return lambda: step(told(count, end), "file", folder=here)
+        return lambda: planned(name, count, 200, contacts, told(count, end))
 
     def compare_sizes(name, few, many, contacts, *others):
         (short, _), (long, _), *rest = least(runs, timed(name, few, contacts), timed(name, many, contacts), *others)
@@ -74,8 +87,9 @@ with tempfile.TemporaryDirectory(dir="/dev/shm") as folder:
         return long, growth, [seconds for seconds, _ in rest]
 
     def compare_load(contacts, name):
-        _, names = write_journal(path, 200_000, 200, contacts)
-        long, growth, (ids,) = compare_sizes("load", 50_000, 200_000, contacts, lambda: step("ids", 200_000, 200, contacts, names))
+        _, _, names = loaded(200_000, 200, contacts)
+        ids = lambda: planned("ids", 200_000, 200, contacts, names)
+        long, growth, (ids,) = compare_sizes("load", 50_000, 200_000, contacts, ids)
         print(f"ids of 200000 messages alone {ids:.3f} s, {ids / 200_000 * 1e6:.2f} us a message")
         lines.append(f"ratio load_small{name} {long / ids:.2f}")
         lines.append(f"ratio load_growth{name} {growth:.3f}")
@@ -83,10 +97,10 @@ with tempfile.TemporaryDirectory(dir="/dev/shm") as folder:
     def compare_memory(contacts, name):
         peaks = []
         for count in (100_000, 200_000):
-            end, _ = write_journal(path, count, 200, contacts)
-            held = step("load", count, 200, contacts, told(count, end)).memory
-            made = step("make", count, 200, contacts, f"{end} bytes\n").memory
-            peaks.append(held - made)
+            here, end, _ = loaded(count, 200, contacts)
+            held = step(told(count, end), "file", folder=here).memory
+            read = step(f"{end} bytes\n", "read", folder=here).memory
+            peaks.append(held - read)
         beside = (peaks[1] - peaks[0]) / 100_000 - 200
         print(f"a held message, {contacts} contacts: {beside:.0f} bytes of memory beside its body")
         lines.append(f"memory held{name} {beside:.0f}")
@@ -96,8 +110,9 @@ with tempfile.TemporaryDirectory(dir="/dev/shm") as folder:
         lines.append(f"ratio commit_growth{name} {growth:.3f}")
         compare_load(contacts, name)
         compare_memory(contacts, name)
-    end, _ = write_journal(path, 8_000, 32_000, 0)
-    (load, _), (theirs, _) = least(runs, lambda: step("load", 8_000, 32_000, 0, told(8_000, end)), lambda: hashed(path))
+    here, end, _ = loaded(8_000, 32_000, 0)
+    load = lambda: step(told(8_000, end), "file", folder=here)
+    (load, _), (theirs, _) = least(runs, load, lambda: hashed(os.path.join(here, "bsp.0")))
     print(f"load: 8000 messages of 32000 bytes, {end} bytes {load:.3f} s, b2sum {theirs:.3f} s")
     lines.append(f"ratio load_large {load / theirs:.2f}")
 print("\n".join(lines))

@@ -5,12 +5,10 @@
 //! - `tree SHAPE COUNT`: items that are added to a tree of replies.
 //! - `tables COUNT`: the table of what is due, for eight contacts.
 //! - `store STEP ..`: a store on a disk in memory, or that of the folder's file.
-//! - `node WHO WAY COUNT LENGTH`: a node on a host in memory, and a store beside it.
 #![tactic(auto)]
 
 mod group;
 mod hash;
-mod node;
 mod stop;
 mod store;
 mod tables;
@@ -30,7 +28,6 @@ fn measure(rt: &HostRuntime, name: &str, words: &[String]) -> Result<()> {
         "tree" => tree::measure(rt, words),
         "tables" => tables::measure(rt, words),
         "store" => store::measure(rt, words),
-        "node" => node::measure(rt, words),
         other => bail!("no part: {other}"),
     }
 }

@@ -5,7 +5,7 @@ ghost use Rattle.sync_rules.specs.Allows.{is_account_kind, is_settling_kind};
 use sync_rules::Entry;
 
 /// Whether entries begin with a step, as a settling batch does.
-pub fn begins_with_step(entries: &[Entry]) -> bool
+pub(crate) fn begins_with_step(entries: &[Entry]) -> bool
     ensures { result ≡ is_settling_kind entries.now }
 {
     matches!(

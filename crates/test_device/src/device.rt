@@ -4,11 +4,7 @@ ghost use Rattle.journal_state.specs.Whole.{KnowsJudgements};
 ghost use Rattle.outside.specs.declared.limits.TheConstants.{MAX_JOURNAL};
 ghost use Rattle.sync_rules.specs.Allows.{is_account_kind, is_settling_kind};
 ghost use Rattle.sync_rules.specs.Legal.{Allowed};
-ghost use Rattle.sync_rules.specs.Clients.{Meaning};
-ghost use Rattle.sync_rules.specs.Steps.{IsSettled};
-ghost use Rattle.entry_codec.specs.declared.naming.Format.TheVariants as kind;
 ghost use Rattle.sync_store.specs.Ready.{IsReady};
-ghost use Rattle.sync_store.specs.Store.{written_in};
 
 use crate::batches::{begins_with_step, is_of_account};
 use crate::fault::AddFault;
@@ -19,7 +15,7 @@ use std::hash::RandomState;
 use std::marker::Model;
 use sync_rules::laws::allows_is_allowed;
 use sync_rules::{Batch, Clients};
-use sync_store::{LoadFault, Store, StoreFault};
+use sync_store::{Store, StoreFault};
 
 /// A store with its disk and its clients.
 #[derive(Drop)]
@@ -65,24 +61,9 @@ impl<D: Disk + Drop, C: Clients + Drop> Device<D, C> {
         }
     }
 
-    /// Loads the store anew from its disk.
-    pub fn load_again(self, alloc: Global) -> Result<Device<D, C>> {
-        Device::load(alloc, self.disk, self.clients, MAX_JOURNAL)
-    }
-
     /// The store.
     pub fn store(&self) -> &Store {
         &self.store
-    }
-
-    /// The disk.
-    pub fn disk(&self) -> &D {
-        &self.disk
-    }
-
-    /// The disk, without the store.
-    pub fn into_disk(self) -> D {
-        self.disk
     }
 
     /// Whether a batch begins with no step, is none that stands in a brief account alone, and may
@@ -105,12 +86,6 @@ impl<D: Disk + Drop, C: Clients + Drop> Device<D, C> {
     /// Writes the journal anew in format 2, where it is of format 1.
     pub fn migrate(&mut self) -> Result<(), StoreFault> {
         self.store.migrate(&mut self.disk, &self.clients)
-    }
-
-    /// Puts the brief account of the journal in its place, where it is settled and of format 2. A
-    /// closed store answers by itself.
-    pub fn compact(&mut self) -> Result<(), AddFault> {
-        compact(&mut self.store, &mut self.disk, &self.clients)
     }
 
     /// Settles the journal.
@@ -146,33 +121,6 @@ fn add<D: Disk, C: Clients>(
     Ok(())
 }
 
-// Compacts a store, where it is settled and of format 2.
-fn compact<D: Disk, C: Clients>(
-    store: &mut Store,
-    disk: &mut D,
-    clients: &C,
-) -> Result<(), AddFault>
-    requires { store.old.closed ≡ false
-        → IsReady (C.meaning clients.now) store.old (D.tells disk.old).files }
-    ensures { store.new.closed ≡ false
-        → IsReady (C.meaning clients.now) store.new (D.tells disk.new).files }
-{
-    if !store.is_closed() && !may_compact(store) {
-        return Err(AddFault::NotAllowed);
-    }
-    store.compact(disk, clients)?;
-    Ok(())
-}
-
-// Whether the journal of a store is settled and of format 2.
-fn may_compact(store: &Store) -> bool
-    ensures settled { (clients : Meaning) → KnowsJudgements clients store.now.state
-        → result ≡ true → IsSettled clients store.now.state.facts }
-    ensures short { result ≡ true → written_in store.now ≡ kind.Short }
-{
-    store.state().is_settled() && store.format() == 2
-}
-
 // Whether a batch may follow the journal, begins with no step, and stands not in a brief account
 // alone; of a closed store the latter two are asked.
 fn may_add<C: Clients>(
@@ -195,17 +143,4 @@ fn may_add<C: Clients>(
     }
     allows_is_allowed();
     store.state().allows(alloc, clients, batch)
-}
-
-/// The place of the closed gate plus one of the journal that a disk's files stand for.
-pub fn end_of<D: Disk, C: Clients>(
-    alloc: Global,
-    disk: &mut D,
-    clients: &C,
-) -> Result<u64, LoadFault> {
-    let Ok(hasher) = RandomState::new(&MemRandom(0)) else {
-        return Err(LoadFault::Memory);
-    };
-    let store = Store::load(alloc, hasher, disk, clients, MAX_JOURNAL)?;
-    Ok(store.end())
 }

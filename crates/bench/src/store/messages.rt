@@ -1,7 +1,4 @@
 //! The entries of a journal that brings messages, and the ids of these.
-ghost use Rattle.std.specs.Prelude.{IfOk};
-ghost use Rattle.entry_codec.specs.Spelling.{MayBeWritten};
-
 use crate::group::make_group;
 use crate::stop::Stop;
 use std::alloc::Global;
@@ -50,9 +47,7 @@ impl Entries {
     }
 
     /// The entry of this number.
-    pub(crate) fn get(&self, k: u64) -> Result<Entry, Stop>
-        ensures { IfOk result (λ entry. MayBeWritten entry) }
-    {
+    pub(crate) fn get(&self, k: u64) -> Result<Entry, Stop> {
         if k == 0 {
             let def = make_group(self.alloc)?;
             return Ok(Entry::Group(def));
@@ -64,9 +59,7 @@ impl Entries {
     }
 
     /// Two entries a contact: it is added, and the group is shared with it.
-    fn share(&self, k: u64) -> Result<Entry, Stop>
-        ensures { IfOk result (λ entry. MayBeWritten entry) }
-    {
+    fn share(&self, k: u64) -> Result<Entry, Stop> {
         let Ok(contact) = u8::try_from(k / 2) else {
             return Err(Stop::NoValue);
         };
