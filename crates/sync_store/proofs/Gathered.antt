@@ -1,6 +1,6 @@
 -- Batches that are gathered and added in groups, one piece of the work behind the other.
-use Rattle.std.proofs.Common.{◌≡◌, ℕ, ◌+◌, ◌-◌, ◌*◌, ◌≤◌, Bool, true, false, List, [], ◌∷◌, ◌++◌, length}
-use Rattle.std.proofs.Common.{Option, Some, Result, Ok, Err, refl, sym, ap, ◌∙◌, subst, inl, inr, arith}
+use Rattle.std.proofs.Common.{◌≡◌, ℕ, ◌+◌, ◌*◌, ◌≤◌, Bool, true, false, List, [], ◌∷◌, ◌++◌, length}
+use Rattle.std.proofs.Common.{Option, Result, Ok, Err, refl, sym, ap, ◌∙◌, subst, inl, inr, arith}
 use Rattle.std.proofs.Common.{append-nil, append_assoc}
 use Rattle.std.specs.Prelude.{◌==◌, nat_le, IfErr, OnOk}
 use Rattle.std.proofs.lemmas.Bool.Decides.{nat_tests}
@@ -21,7 +21,7 @@ use Rattle.sync_store.specs.declared.fault.StoreFault.TheVariants as fault
 use Rattle.sync_store.specs.Store.{IsStore, NoneWaits, StoreValue, format_meant, written_in}
 use Rattle.sync_store.specs.Appending.{AppendsFor}
 use Rattle.sync_store.specs.Commits.{KeepsStore}
-use Rattle.sync_store.specs.Fitting.{FitsFiles, FitsSome, ImagesStand}
+use Rattle.sync_store.specs.Fitting.{FitsSome, ImagesStand}
 use Rattle.sync_store.specs.Gathering.{GathersSteps, IsAdded, IsUnderway, KeepsJournal}
 use Rattle.sync_store.specs.Gathering.{MakesRoom}
 use Rattle.sync_store.specs.Groups.{AddsAll, HasGathered, HasGroupRoom, IsGathering, NoneOrAll}
@@ -96,8 +96,11 @@ pub group_added : (clients : Meaning) (before s new : StoreValue) (more : List (
     → AddsAll clients before new o o' more → IsAdded clients before new o o' more
 group_added clients before s new more o o' g same run just most appends adds =
     let some : 1 ≤ length s.waiting =
-    omega (arith, joined_len (payloads (written_in before) before.state.facts more) s.waiting
-    g.joined) in
+    omega (
+      arith,
+      joined_len (payloads (written_in before) before.state.facts more) s.waiting
+          g.joined,
+    ) in
     let groups = unless (length s.waiting == 1) in
     let calls : flush_calls s.waiting ≡ 4 * groups = calls_of_group (length s.waiting == 1) in
     let counted : groups ≡ groups_for (written_in before) 0 more =
@@ -340,8 +343,11 @@ pub room_made : (clients : Meaning) (before s new : StoreValue) (waits : List (L
 room_made clients before s new waits (Ok u) o o' store still ok err g added full =
     let none : new.waiting ≡ 0 ∷ [] = ap (λ (v : StoreValue). v.waiting) ok in
     let some : length s.waiting ≡ group_len s.waiting + 1 =
-    omega (arith, joined_len (payloads (written_in before) before.state.facts waits) s.waiting
-    g.joined) in
+    omega (
+      arith,
+      joined_len (payloads (written_in before) before.state.facts waits) s.waiting
+          g.joined,
+    ) in
     underway_flushed clients before s new o o' waits store g added
     (ap (λ (v : StoreValue). v.closed) ok ∙ still) none (full_by (length s.waiting)
     (group_len s.waiting) some full)

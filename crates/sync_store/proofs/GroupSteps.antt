@@ -1,5 +1,5 @@
 -- Batches whose frames wait, and what adding them makes of files that fit a store.
-use Rattle.std.proofs.Common.{◌≡◌, ℕ, suc, ◌+◌, ◌-◌, ◌≤◌, Bool, true, false, cond, List, [], ◌∷◌}
+use Rattle.std.proofs.Common.{◌≡◌, ℕ, ◌+◌, ◌≤◌, Bool, true, false, cond, List, [], ◌∷◌}
 use Rattle.std.proofs.Common.{◌++◌, length, Option, Some, refl, sym, ap, ◌∙◌, subst, inl, inr, arith}
 use Rattle.std.proofs.Common.{append_assoc, length-append}
 use Rattle.std.specs.List.{AllByRecursion, flat_map}
@@ -36,13 +36,13 @@ use Rattle.entry_codec.specs.Standing.{room_of}
 use Rattle.entry_codec.specs.StandingLaws.{JournalsStand}
 use Rattle.entry_codec.proofs.Growing.{all_push}
 use Rattle.outside.specs.declared.limits.TheConstants.{MAX_FRAME, MAX_JOURNAL}
-use Rattle.sync_store.specs.Store.{IsStore, NoneWaits, StoreValue, format_meant, written_in}
+use Rattle.sync_store.specs.Store.{IsStore, StoreValue, format_meant, written_in}
 use Rattle.sync_store.specs.Commits.{GainsBatch, MayAdd}
 use Rattle.sync_store.specs.Fitting.{FitsFiles, FitsSome}
 use Rattle.sync_store.specs.Groups.{AddsAll, HasGathered, HasGroupRoom, IsGathering, NoneOrAll}
 use Rattle.sync_store.specs.Ready.{IsReady}
 use Rattle.journal_state.specs.Whole.{KnowsJudgements}
-use Rattle.sync_store.specs.Moments.{JournalMoment, LeadsTo, groups_for}
+use Rattle.sync_store.specs.Moments.{JournalMoment, groups_for}
 use Rattle.sync_store.proofs.FitSteps.{IsSame, bounded_now, first_of, framed_len, other_reads}
 use Rattle.sync_store.proofs.FitSteps.{rests}
 use Rattle.sync_store.proofs.FitSteps.{other_settled, second_of, stands_at, this_reads, true≢false}

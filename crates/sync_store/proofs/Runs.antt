@@ -1,5 +1,5 @@
 -- Runs of a store's calls, one behind the other: for whoever calls a store more than once.
-use Rattle.std.proofs.Common.{◌≡◌, ℕ, ◌+◌, ◌*◌, ◌≤◌, length, true, false, List, [], ◌∷◌, ◌++◌, Option, Some, Result, Ok, Err}
+use Rattle.std.proofs.Common.{◌≡◌, ℕ, ◌+◌, ◌*◌, ◌≤◌, length, false, List, [], ◌∷◌, ◌++◌, Option, Some, Result, Ok, Err}
 use Rattle.std.proofs.Common.{refl, sym, ap, ◌∙◌, subst, append-nil, length-append, arith}
 use Rattle.std.specs.Prelude.{IsErrOf}
 use Rattle.outside.specs.Faults.{CountRose}
@@ -26,7 +26,7 @@ use Rattle.sync_store.specs.Ready.{IsReady}
 use Rattle.sync_store.specs.Appending.{AppendsFor}
 use Rattle.sync_store.specs.Gathering.{SettlesOut}
 use Rattle.sync_store.specs.Moments.{RunsCommit, IsBetween, JournalMoment, groups_for}
-use Rattle.sync_store.specs.Runs.{AddsBatch, ExtendsSo, HasExtended, LeadsBy, RunsBy, committed_by}
+use Rattle.sync_store.specs.Runs.{ExtendsSo, HasExtended, LeadsBy, RunsBy, committed_by}
 use Rattle.sync_store.specs.Settling.{HasSettled, SettlesSo}
 use Rattle.sync_store.proofs.FitSteps.{IsSame, fits_same, true≢false}
 use Rattle.sync_store.proofs.GroupCounts.{few_groups}
@@ -70,37 +70,40 @@ store_back s new stays store = record {
 -- no call was made of the disk
 pub runs_nothing : ImagesStand → (clients : Meaning) (s new : StoreValue) (o : Outside) → IsStore s
     → KeepsStore s new → (r : RunsBy clients s new o o []) × (r.groups ≡ 0)
-runs_nothing images clients s new o store stays = (record {
-  goes_on = tt;
-  facts = λ still. stays.facts;
-  file = stays.file;
-  format = stays.format;
-  generation = stays.generation;
-  limit = stays.limit;
-  run = run_none o;
-  leads = λ two told j fits. record {
-    moments =
-        moments_none o (JournalMoment clients (IsBetween j []) (sent_of o.links.told))
-        (λ m w.
-        let now = o.now_is two m told w in
-        record {
-          whole = j;
-          has = record { front = []; rest = []; parts = refl; is = sym (append-nil j) };
-          stands_for = images clients s j two m.files fits store.roomy now.image;
-          nothing_sent = now.sent;
-        });
-    ends = λ still two' told'.
-        let one : two ≡ two' = cc in (
-          j,
-          sym (append-nil j),
-          subst (λ (t : Two File). FitsFiles clients new j t) one
-              (fits_same clients s new j two fits (same_store s new stays)),
-        );
-  };
-  groups = 0;
-  few = omega arith;
-  calls = calls_none s new o stays.end stays.closed;
-}, refl)
+runs_nothing images clients s new o store stays = (
+  record {
+    goes_on = tt;
+    facts = λ still. stays.facts;
+    file = stays.file;
+    format = stays.format;
+    generation = stays.generation;
+    limit = stays.limit;
+    run = run_none o;
+    leads = λ two told j fits. record {
+      moments =
+          moments_none o (JournalMoment clients (IsBetween j []) (sent_of o.links.told))
+          (λ m w.
+          let now = o.now_is two m told w in
+          record {
+            whole = j;
+            has = record { front = []; rest = []; parts = refl; is = sym (append-nil j) };
+            stands_for = images clients s j two m.files fits store.roomy now.image;
+            nothing_sent = now.sent;
+          });
+      ends = λ still two' told'.
+          let one : two ≡ two' = cc in (
+            j,
+            sym (append-nil j),
+            subst (λ (t : Two File). FitsFiles clients new j t) one
+                (fits_same clients s new j two fits (same_store s new stays)),
+          );
+    };
+    groups = 0;
+    few = omega arith;
+    calls = calls_none s new o stays.end stays.closed;
+  },
+  refl,
+)
 
 pub runs_none : ImagesStand → (clients : Meaning) (s new : StoreValue) (o : Outside) → IsStore s
     → KeepsStore s new → RunsBy clients s new o o []
@@ -205,25 +208,27 @@ pub runs_both : (clients : Meaning) (s0 s1 s2 : StoreValue) (o0 o1 o2 : Outside)
     (second : RunsBy clients s1 s2 o1 o2 ys)
     → (r : RunsBy clients s0 s2 o0 o2 (xs ++ ys)) × (r.groups ≡ first.groups + second.groups)
 runs_both clients s0 s1 s2 o0 o1 o2 xs ys still first second =
-    let f = s0.state.facts in
-    (record {
-      goes_on =
-          goes_on_both clients f xs ys first.goes_on
-          (subst (λ (g : Facts). GoesOn clients g ys) (first.facts still) second.goes_on);
-      facts = λ opened. second.facts opened
-          ∙ ap (λ (g : Facts). after_batches g ys) (first.facts still)
-          ∙ sym (after_batches-append f xs ys);
-      file = second.file ∙ first.file;
-      format = second.format ∙ first.format;
-      generation = second.generation ∙ first.generation;
-      limit = second.limit ∙ first.limit;
-      run = run_then o0 o1 o2 first.run second.run;
-      leads = leads_then clients s0 s1 s2 o0 o1 o2 xs ys still first.run first.leads second.leads;
-      groups = first.groups + second.groups;
-      few = omega (arith, first.few, second.few, length-append xs ys);
-      calls = calls_runs s0 s1 s2 o0 o1 o2 first.groups second.groups first.file still first.calls
-          second.calls;
-    }, refl)
+    let f = s0.state.facts in (
+      record {
+        goes_on =
+            goes_on_both clients f xs ys first.goes_on
+            (subst (λ (g : Facts). GoesOn clients g ys) (first.facts still) second.goes_on);
+        facts = λ opened. second.facts opened
+            ∙ ap (λ (g : Facts). after_batches g ys) (first.facts still)
+            ∙ sym (after_batches-append f xs ys);
+        file = second.file ∙ first.file;
+        format = second.format ∙ first.format;
+        generation = second.generation ∙ first.generation;
+        limit = second.limit ∙ first.limit;
+        run = run_then o0 o1 o2 first.run second.run;
+        leads = leads_then clients s0 s1 s2 o0 o1 o2 xs ys still first.run first.leads second.leads;
+        groups = first.groups + second.groups;
+        few = omega (arith, first.few, second.few, length-append xs ys);
+        calls = calls_runs s0 s1 s2 o0 o1 o2 first.groups second.groups first.file still first.calls
+            second.calls;
+      },
+      refl,
+    )
 
 pub runs_then : (clients : Meaning) (s0 s1 s2 : StoreValue) (o0 o1 o2 : Outside)
     (xs ys : List (List Entry)) → s1.closed ≡ false → RunsBy clients s0 s1 o0 o1 xs

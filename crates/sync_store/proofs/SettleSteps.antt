@@ -2,7 +2,6 @@
 use Rattle.std.proofs.Common.{◌≡◌, ℕ, ◌+◌, ◌*◌, length, true, false, List, [], ◌∷◌, ◌++◌, Some}
 use Rattle.std.proofs.Common.{Result, Ok, Err, refl, sym, ap, ◌∙◌, subst, inl, inr, arith}
 use Rattle.std.proofs.Common.{append-nil, append_assoc, length-append}
-use Rattle.std.specs.List.{AllByRecursion}
 use Rattle.outside.specs.Files.{Two, File}
 use Rattle.outside.specs.Links.{Links, sent_of}
 use Rattle.outside.specs.Made.{BreaksIn, DoesAll}
@@ -10,33 +9,24 @@ use Rattle.outside.specs.Outside.{Outside, DiskRun, MakesAtMost, MakesJust}
 use Rattle.frame_journal.specs.Append.{IsFramed}
 use Rattle.frame_journal.specs.Appends.{Appends, BreaksAppends, append_calls}
 use Rattle.frame_journal.proofs.Appending.{appends_none, appends_one, appends_then, breaks_behind, breaks_one, frames_of_one}
-use Rattle.outside.proofs.CallSteps.{moments_map, moments_then, run_none, run_then, told_back}
+use Rattle.outside.proofs.CallSteps.{moments_map, moments_then, told_back}
 use Rattle.outside.proofs.CallSteps.{told_on}
 use Rattle.outside.proofs.CallCounts.{just_most, just_none, just_then, most_none, most_then}
 use Rattle.sync_rules.specs.declared.entries.Entry.{Entry}
 use Rattle.sync_rules.specs.Clients.{Meaning}
-use Rattle.sync_rules.specs.Facts.{Facts, after_batches}
-use Rattle.sync_rules.specs.Left.{left_of}
-use Rattle.sync_rules.proofs.LeftLaws.{left_few}
-use Rattle.sync_rules.specs.Legal.{AllSettling}
-use Rattle.sync_rules.specs.Steps.{IsSettled}
-use Rattle.sync_rules.proofs.Settling.{after_batches-append}
-use Rattle.entry_codec.proofs.Growing.{settling-append}
 use Rattle.entry_codec.specs.declared.naming.Format.{Format}
 use Rattle.entry_codec.specs.Standing.{step_len}
-use Rattle.entry_codec.specs.StandingLaws.{JournalsStand}
 use Rattle.sync_store.specs.declared.fault.StoreFault.{StoreFault}
-use Rattle.sync_store.specs.declared.fault.StoreFault.TheVariants as fault
-use Rattle.sync_store.specs.Store.{StoreValue, IsStore, format_meant, written_in}
+use Rattle.sync_store.specs.Store.{StoreValue}
 use Rattle.sync_store.specs.Fitting.{FitsFiles, FitsSome}
 use Rattle.sync_store.specs.Appending.{AppendsFor, CallsFor}
 use Rattle.sync_store.specs.Moments.{JournalMoment, LeadsTo, WithAtMost, journal_with}
 use Rattle.sync_store.specs.Moments.{RunsCommit, IsBetween}
 use Rattle.sync_store.specs.Runs.{LeadsBy}
 use Rattle.sync_store.specs.Settling.{settling_len, steps_in}
-use Rattle.sync_store.proofs.FitSteps.{IsSame, leads_none, true≢false}
-use Rattle.sync_store.proofs.FormatLaws.{room_split, steps_both}
-use Rattle.sync_store.proofs.Steps.{all-append, batches_lower, filled_push, steps_in-append}
+use Rattle.sync_store.proofs.FitSteps.{true≢false}
+use Rattle.sync_store.proofs.FormatLaws.{steps_both}
+use Rattle.sync_store.proofs.Steps.{steps_in-append}
 
 -- a weaker word on a run
 pub leads_map : (clients : Meaning) (P P' Q Q' : List (List Entry) → Type 0) (s : StoreValue)

@@ -1,6 +1,6 @@
 -- What a run of a store's calls leaves at each moment, and at its end, in words of the whole
 -- journal that the files stand for.
-use Rattle.std.specs.Prelude.{◌≡◌, ◌⊎◌, ◌==◌, ℕ, suc, ◌+◌, ◌*◌, nat_le, cond, false, List, [], ◌∷◌}
+use Rattle.std.specs.Prelude.{◌≡◌, ◌⊎◌, ◌==◌, ℕ, suc, ◌+◌, nat_le, cond, false, List, [], ◌∷◌}
 use Rattle.std.specs.Prelude.{◌++◌, Some, Result, Ok, Err}
 use Rattle.frame_journal.specs.declared.group.TheConstants.{MAX_GROUP}
 use Rattle.outside.specs.declared.limits.TheConstants.{MAX_FRAME}

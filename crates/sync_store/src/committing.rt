@@ -134,9 +134,7 @@ impl Store {
             .left_with(batch)
             .saturating_mul(step_bytes(format));
         let len = batch_len(format, batch) as u64;
-        let all = room
-            .saturating_add(len)
-            .saturating_add(self.end() + 5);
+        let all = room.saturating_add(len).saturating_add(self.end() + 5);
         self.limit < all
     }
 

@@ -18,7 +18,8 @@ use sync_ids::MessageId;
 use sync_rules::{Batch, Clients};
 
 impl Store {
-    /// Commits a batch as `commit` does, and settles the journal behind it as `settle` does.
+    /// Commits a batch as `commit` does, and settles the journal behind it as `settle` does: they are
+    /// added together, in four calls of the disk while they are within `MAX_GROUP` bytes.
     /// `Closed` comes exactly where an earlier call answered `DiskFault`; then `Full` exactly
     /// where the journal, the frame and the room that settling may then need pass the limit. After
     /// both all is as before, and no call on the disk was made. After `Memory` the journal is as

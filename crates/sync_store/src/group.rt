@@ -72,13 +72,7 @@ impl Store {
     }
 
     // Adds the batch in its frame to those that wait, with no memory.
-    fn add<C: Clients>(
-        &mut self,
-        clients: &C,
-        framed: &[u8],
-        batch: Batch,
-        id: Option<MessageId>,
-    )
+    fn add<C: Clients>(&mut self, clients: &C, framed: &[u8], batch: Batch, id: Option<MessageId>)
         requires still_open { self.old.closed ≡ false }
         requires may { MayAdd (C.meaning clients.now) self.old batch framed.now }
         requires kind { is_settling_kind batch ≡ false }

@@ -1,6 +1,5 @@
 use Rattle.std.proofs.Common.{◌≡◌, ◌+◌, ◌≤◌, List, ℕ, length, refl, sym, ap, ◌∙◌, subst, false, arith}
-use Rattle.frame_journal.specs.Append.{payload_of}
-use Rattle.frame_journal.specs.Group.{IsJoined, group_len}
+use Rattle.frame_journal.specs.Group.{group_len}
 use Rattle.journal_state.specs.Whole.{KnowsJudgements, StateValue}
 use Rattle.sync_rules.specs.declared.entries.Entry.{Entry}
 use Rattle.sync_rules.specs.Clients.{Meaning}

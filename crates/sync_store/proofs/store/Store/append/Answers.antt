@@ -1,4 +1,4 @@
-use Rattle.std.proofs.Common.{◌≡◌, ◌+◌, List, [], ◌∷◌, ℕ, Option, Some, length, refl, sym, ap, ◌∙◌, subst, false, true, arith}
+use Rattle.std.proofs.Common.{◌≡◌, ◌+◌, List, [], ◌∷◌, ℕ, length, refl, sym, ap, ◌∙◌, subst, false, true, arith}
 use Rattle.std.proofs.Common.{Ok}
 use Rattle.outside.specs.Disk.{RelatesTold}
 use Rattle.outside.specs.Files.{Two, File, file_of}

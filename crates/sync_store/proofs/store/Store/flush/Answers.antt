@@ -1,14 +1,7 @@
-use Rattle.std.proofs.Common.{◌≡◌, ◌+◌, List, [], ◌∷◌, ℕ, length, refl, sym, ap, ◌∙◌, subst, true, false}
-use Rattle.std.proofs.Common.{arith}
-use Rattle.outside.specs.Files.{file_of}
-use Rattle.outside.specs.Disk.{RelatesTold}
-use Rattle.outside.specs.Steps.{PassedMoments}
-use Rattle.frame_journal.specs.Group.{AppendsFrames, BeforeOrWithAll, group_len}
-use Rattle.frame_journal.specs.Journal.{JournalValue}
-use Rattle.journal_state.specs.Whole.{KnowsJudgements}
-use Rattle.sync_store.specs.Store.{IsStore, StoreValue}
+use Rattle.std.proofs.Common.{◌≡◌, [], ◌∷◌, refl, sym, ap, ◌∙◌, subst, false}
+use Rattle.sync_store.specs.Store.{StoreValue}
 use Rattle.sync_store.specs.Inside.{value_of}
-use Rattle.sync_store.specs.Groups.{AddsAll, HasGathered, IsGathering}
+use Rattle.sync_store.specs.Groups.{HasGathered, IsGathering}
 use Rattle.sync_store.proofs.GroupSteps.{adds_all, adds_failed, emptied_store, end_before}
 use Rattle.sync_store.proofs.GroupSteps.{flushed_store, ready_added, rests_before, same_files, same_passed}
 use Rattle.sync_store.proofs.GroupAppends.{group_appended, group_appends, group_breaks, group_broken}

@@ -1,7 +1,5 @@
-use Rattle.std.proofs.Common.{◌≡◌, ◌≤◌, false, refl, sym, ap, ◌∙◌, subst}
-use Rattle.sync_rules.specs.Legal.{Allowed}
+use Rattle.std.proofs.Common.{◌≡◌, false, sym, ap, ◌∙◌, subst}
 use Rattle.sync_store.specs.Commits.{needed}
-use Rattle.sync_store.specs.Groups.{HasGroupRoom, HasGathered}
 use Rattle.sync_store.specs.Store.{StoreValue, IsStore}
 use Rattle.sync_store.proofs.Growth.{fits_by, may_add}
 use Rattle.sync_store.proofs.store.Store.gather.Goals as goal

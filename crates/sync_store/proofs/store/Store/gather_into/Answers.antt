@@ -1,4 +1,4 @@
-use Rattle.std.proofs.Common.{◌≡◌, ℕ, ◌+◌, ◌≤◌, false, List, [], length, refl, sym, ap, ◌∙◌, subst}
+use Rattle.std.proofs.Common.{◌≡◌, ℕ, ◌≤◌, false, List, [], length, refl, sym, ap, ◌∙◌, subst}
 use Rattle.std.proofs.Common.{arith, Result, Ok, Err}
 use Rattle.std.specs.List.{AllByRecursion}
 use Rattle.sync_rules.specs.declared.entries.Entry.{Entry}
@@ -20,7 +20,7 @@ use Rattle.sync_store.proofs.Errors.{err_is}
 use Rattle.sync_store.proofs.GroupSteps.{frame_finds_room, group_some}
 use Rattle.sync_store.proofs.Growth.{Came, Filled, filled_framed, filled_from, filled_steps}
 use Rattle.sync_store.proofs.Growth.{filled_store, filled_whole, length_nil, none_by, some_by}
-use Rattle.sync_store.proofs.Growth.{starved_none, stepped_store}
+use Rattle.sync_store.proofs.Growth.{starved_none}
 use Rattle.sync_store.proofs.Steps.{all_steps, names_stay}
 use Rattle.sync_store.proofs.store.Store.gather_into.Goals as goal
 

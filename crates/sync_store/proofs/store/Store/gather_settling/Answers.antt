@@ -1,17 +1,14 @@
-use Rattle.std.proofs.Common.{◌≡◌, ◌↔◌, ◌<◌, ◌++◌, Bool, IsTrue, true, false, refl, sym, ap, ◌∙◌, subst, Result, Err}
+use Rattle.std.proofs.Common.{◌≡◌, ◌↔◌, ◌++◌, Bool, IsTrue, sym, ap, ◌∙◌, subst, Result, Err}
 use Rattle.outside.proofs.CallSteps.{run_none, run_then}
 use Rattle.journal_state.specs.Whole.{KnowsJudgements, StateValue}
 use Rattle.sync_rules.specs.Clients.{Meaning}
-use Rattle.sync_rules.specs.Left.{left_of}
 use Rattle.sync_rules.specs.Steps.{IsSettled}
 use Rattle.sync_store.specs.declared.fault.StoreFault.{StoreFault}
-use Rattle.sync_store.specs.declared.fault.StoreFault.TheVariants as fault
 use Rattle.sync_store.specs.Gathering.{SettlesOn}
 use Rattle.sync_store.specs.Groups.{IsGathering}
 use Rattle.sync_store.proofs.Errors.{err_is}
 use Rattle.sync_store.proofs.FitSteps.{true≢false}
-use Rattle.sync_store.proofs.Gathered.{gathering_still, underway_begins, underway_more, underway_then}
-use Rattle.sync_store.proofs.Runs.{rose_later}
+use Rattle.sync_store.proofs.Gathered.{gathering_still, underway_begins, underway_more}
 use Rattle.sync_store.proofs.SettleLoop.{room_failed, while_begins, while_broken, while_ends}
 use Rattle.sync_store.proofs.SettleLoop.{while_more, while_starved}
 use Rattle.sync_store.proofs.Steps.{unsettled}

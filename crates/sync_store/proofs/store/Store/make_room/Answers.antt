@@ -1,4 +1,4 @@
-use Rattle.std.proofs.Common.{◌≡◌, false, length, refl, sym, ◌∙◌}
+use Rattle.std.proofs.Common.{length, refl, sym, ◌∙◌}
 use Rattle.sync_store.proofs.Gathered.{flush_added, gathering_then, has_room_then, keeps_flushed}
 use Rattle.sync_store.proofs.Gathered.{room_made, room_so, underway_begins}
 use Rattle.sync_store.proofs.store.Store.make_room.Goals as goal

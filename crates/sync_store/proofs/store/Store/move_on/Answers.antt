@@ -164,8 +164,11 @@ returns-in-Err-DiskFault-clause-migrated g c =
     (c.in-Err-DiskFault.ensures.migrates clients) in
     subst (λ (v : StoreValue). HasMigrated clients v new (Err fault.DiskFault) o o') view
     (record {
-      answer = (old, ap (λ (v : StoreValue). record v { closed = true })
-          (lies_at i i.state c.self.inside.journal i.waiting none));
+      answer = (
+        old,
+        ap (λ (v : StoreValue). record v { closed = true })
+            (lies_at i i.state c.self.inside.journal i.waiting none),
+      );
       leads =
           leads_failed clients s new o o' old refl
           (subst (λ (e : MigrationFault). Gives clients s (Err e) o o')

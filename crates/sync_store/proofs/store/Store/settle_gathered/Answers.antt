@@ -1,7 +1,6 @@
 use Rattle.std.proofs.Common.{◌≡◌, true, false, Result, Ok, Err, sym, ap, ◌∙◌, subst}
 use Rattle.outside.proofs.CallSteps.{run_then}
 use Rattle.sync_store.specs.declared.fault.StoreFault.{StoreFault}
-use Rattle.sync_store.specs.declared.fault.StoreFault.TheVariants as fault
 use Rattle.sync_store.specs.Gathering.{SettlesOut}
 use Rattle.sync_store.specs.Store.{StoreValue}
 use Rattle.sync_store.proofs.Errors.{err_is}

@@ -280,8 +280,11 @@ returns-in-Err-DiskFault-clause-compacted g c =
     subst (λ (v : StoreValue). StoreHasCompacted clients v new (Err fault.DiskFault) o o')
     view
     (record {
-      answer = (record { generation = further; roomy = room }, ap (λ (v : StoreValue).
-          record v { closed = true }) (lies_at i i.state m i.waiting none));
+      answer = (
+        record { generation = further; roomy = room },
+        ap (λ (v : StoreValue).
+            record v { closed = true }) (lies_at i i.state m i.waiting none),
+      );
       leads = leads_broken clients s m o o' short kept new refl
           (subst (λ (e : CompactionFault). GivesBrief clients s m (Err e) o o')
           c.in-Err-DiskFault.field-0-is c.in-Err-DiskFault.ensures.compacts);
