@@ -62,7 +62,7 @@ ROWS = [
     Row('audit', 'audit.sh', 'an audit of 20,000 notes of 200 bytes that were heard and sent on in 200 sessions, against one of 5,000, over '
         'n log n; over a load of the same file; its memory over the length of the file; a chain of 5,000 messages in the worst order, and '
         '5,000 that wait for one, over their loads',
-        '{audit_growth:.2f}; {audit_load:.1f}; {audit_memory:.2f}; {audit_chain:.0f}, {audit_star:.0f}', '1: n log n; none; 1: the file; none'),
+        '{audit_growth:.2f}; {audit_load:.1f}; {audit_memory:.2f}; {audit_chain:.1f}, {audit_star:.1f}', '1: n log n; none; 1: the file; none'),
     Row('tree', 'tree.sh', 'a tree of replies made of 200,000 items against one of 50,000, as chains of 20,000, a star and random replies, over '
         'linear; `tree` of 20 messages in the middle of 200,000 of a star and of random replies, and of a chain of 20,000 and one of '
         '100,000, over the load of their store; bytes an item',
