@@ -78,8 +78,8 @@ pub fn add_group<D: Disk, W: Sink, C: Clients>(
     out: &mut W,
     clients: &C,
 ) -> Result<(), Outcome>
-    ensures { HasAdded (C.meaning clients.now) (λ f. group_plan (C.meaning clients.now) f def) Settling.Before (D.tells disk.old)
-        (D.tells disk.new) (W.tells out.old) (W.tells out.new) (came_to result) }
+    ensures { HasAdded (C.meaning clients.now) (λ f. group_plan (C.meaning clients.now) f def)
+        Settling.Before (D.tells disk.old) (D.tells disk.new) (W.tells out.old) (W.tells out.new) (came_to result) }
 {
     let mut store = load_store(alloc, hasher, disk, clients)?;
     add_group_loaded(alloc, &mut store, def, disk, out, clients)
@@ -127,8 +127,8 @@ pub fn set_level<D: Disk, W: Sink, C: Clients>(
     out: &mut W,
     clients: &C,
 ) -> Result<(), Outcome>
-    ensures { HasAdded (C.meaning clients.now) (λ f. level_plan f contact group.now level) Settling.Before (D.tells disk.old)
-        (D.tells disk.new) (W.tells out.old) (W.tells out.new) (came_to result) }
+    ensures { HasAdded (C.meaning clients.now) (λ f. level_plan f contact group.now level)
+        Settling.Before (D.tells disk.old) (D.tells disk.new) (W.tells out.old) (W.tells out.new) (came_to result) }
 {
     let mut store = load_store(alloc, hasher, disk, clients)?;
     set_level_loaded(alloc, &mut store, contact, group, level, disk, out, clients)
