@@ -1,5 +1,5 @@
 -- What an added entry leaves: it stands in the journal with settling behind it, or at most that does where the disk stopped.
-use Rattle.std.proofs.Common.{◌≡◌, ◌≢◌, ℕ, ◌+◌, ◌*◌, ◌<◌, length, length-append, arith, List, [], ◌∷◌, ◌++◌, refl, sym, ap, ◌∙◌, subst, Option, Some, Result, Ok, Err}
+use Rattle.std.proofs.Common.{false, true, ◌≡◌, ◌≢◌, ℕ, ◌+◌, ◌*◌, ◌<◌, length, length-append, arith, List, [], ◌∷◌, ◌++◌, refl, sym, ap, ◌∙◌, subst, Option, Some, Result, Ok, Err}
 use Rattle.std.specs.Prelude.{IsSomeAnd}
 use Rattle.std.specs.Option.{option_map}
 use Rattle.sync_store.specs.Commits.{needed}
@@ -43,7 +43,7 @@ use Rattle.world_devices.proofs.CallLaws.{DidWell, behind}
 use Rattle.world_devices.proofs.KeepLaws.{fits_here, holds_fits, leads_leave}
 use Rattle.world_devices.proofs.RunningLaws.{journal_of, open_of}
 use Rattle.world_devices.proofs.StartLaws.{fits_hold}
-use Rattle.world_devices.proofs.TurnLaws.{of_node}
+use Rattle.world_devices.proofs.TurnLaws.{BrokenBy, broken_by, broken_map, of_node}
 
 -- ---- what its node says of a batch
 
@@ -157,16 +157,23 @@ parts_long front others more parts =
     let long : length more ≡ length front + length others = ap length parts ∙ length-append front others in
     omega (arith, long, all_long front, length-append others (batches_in (commit_acts front)))
 
-adds_within : (batch : List Entry) (s s' : StoreValue) (o o' : Outside) (x : NodeFault) → ByFault (AddStops bundle_meaning batch s s' o o') x → AddsWithin bundle_meaning batch s o o'
-adds_within batch s s' o o' node_fault.Memory by = record {
+adds_within : (batch : List Entry) (s s' : StoreValue) (o o' : Outside) (x : NodeFault) → ByFault (AddStops bundle_meaning batch s s' o o') x
+    → BrokenBy (λ by. AddsWithin bundle_meaning by batch s o o') x
+adds_within batch s s' o o' node_fault.Memory by = broken_by _ false node_fault.Memory (λ is. cc) (record {
   more = by.more;
   adds = by.adds;
   calls =
       most_more (4 * length (batches_in (commit_acts by.more))) (4 * length by.more) o o'
       (omega (arith, all_long by.more)) by.did.calls;
-}
-adds_within batch s s' o o' node_fault.Full full = record { more = []; adds = tt; calls = full.idle.did.calls }
-adds_within batch s s' o o' node_fault.DiskFault by = record {
+  cut = (s'.end, by.did.appends);
+})
+adds_within batch s s' o o' node_fault.Full full = broken_by _ false node_fault.Full (λ is. cc) (record {
+  more = [];
+  adds = tt;
+  calls = full.idle.did.calls;
+  cut = (s'.end, full.idle.did.appends);
+})
+adds_within batch s s' o o' node_fault.DiskFault by = broken_by _ true node_fault.DiskFault (λ is. refl) (record {
   more = by.more;
   adds = by.adds;
   calls =
@@ -174,19 +181,22 @@ adds_within batch s s' o o' node_fault.DiskFault by = record {
       (4 * length by.more) o o'
       (omega (arith, parts_long by.breaks.front by.breaks.others by.more by.breaks.parts))
       by.breaks.did.calls;
-}
+  cut = by.breaks.did.breaks;
+})
 adds_within batch s s' o o' node_fault.Closed none = absurd none
 
 -- adding came to this host
 pub came_adding : (e : Entry) (n n' : NodeValue) (node : Option NodeValue) (h at : MemHostValue)
     (links : ℕ) (x : NodeFault) → LeadsBatch n n' h at (e ∷ []) → IsRunning n h links → node ≡ Some n
-    → BatchStops n n' h at x (e ∷ []) → CameAdding e node h at
-came_adding e n n' maybe h at links x leads run was stopped = (
-  at_most e n n' h at links leads run,
-  of_node (λ (m : NodeValue).
-      AddsWithin bundle_meaning (e ∷ []) m.store (host_told h) (host_told at)) n maybe was
-      (adds_within (e ∷ []) n.store n'.store (host_told h) (host_told at) x stopped),
-)
+    → BatchStops n n' h at x (e ∷ []) → BrokenBy (λ by. CameAdding e node h by at) x
+came_adding e n n' maybe h at links x leads run was stopped =
+    broken_map (λ by. AddsWithin bundle_meaning by (e ∷ []) n.store (host_told h) (host_told at))
+    (λ by. CameAdding e maybe h by at) x
+    (λ by adds. (
+      at_most e n n' h at links leads run,
+      of_node (λ (m : NodeValue).
+          AddsWithin bundle_meaning by (e ∷ []) m.store (host_told h) (host_told at)) n maybe was adds,
+    )) (adds_within (e ∷ []) n.store n'.store (host_told h) (host_told at) x stopped)
 
 -- ---- a host that is anew stays so
 

@@ -12,7 +12,7 @@ use Rattle.outside.specs.Outside.{Outside}
 use Rattle.outside.specs.Runs.{TellsAll, answers_at, heard_bytes, sent_at}
 use Rattle.outside.proofs.RunLaws.{others_dial}
 use Rattle.outside.specs.Calls.{CallsGoOn}
-use Rattle.outside.proofs.CallSteps.{go_on_none, go_on_then}
+use Rattle.outside.proofs.CallSteps.{change_none, change_then, go_on_none, go_on_then}
 use Rattle.outside.specs.Changes.{Change, hosted}
 use Rattle.outside.specs.MemDisk.{MemDiskValue, calls_of, KeptFile, kept_after, changed, both_kept}
 use Rattle.outside.specs.MemDisk.{disk_files, files_of, fresh_disk, links_after, answers_after}
@@ -127,20 +127,32 @@ stop_told h between h' call result none ok err =
 -- ---- calls that make none of the disk
 
 pub disk_none : (h : MemHostValue) → LeavesDisk h h
-disk_none h = record { files = refl; made = refl; calls = go_on_none (calls_of h.disk) }
+disk_none h = record {
+  files = refl;
+  made = refl;
+  calls = go_on_none (calls_of h.disk);
+  unchanged = change_none (calls_of h.disk);
+}
 
 pub disk_then : (a b c : MemHostValue) → LeavesDisk a b → LeavesDisk b c → LeavesDisk a c
 disk_then a b c first second = record {
   files = second.files ∙ first.files;
   made = second.made ∙ first.made;
   calls = go_on_then (calls_of a.disk) (calls_of b.disk) (calls_of c.disk) first.calls second.calls;
+  unchanged =
+      change_then (calls_of a.disk) (calls_of b.disk) (calls_of c.disk) first.unchanged second.unchanged;
 }
 
 pub clock_disk : (h h' : MemHostValue) (clock : Readings) (result : Result (Unit {0}) AllocError)
     → OnOk result (h' ≡ record h { clock = clock }) → OnErr result (h' ≡ h) → LeavesDisk h h'
 clock_disk h h' clock result ok err =
     either (LeavesDisk h) h h' (record h { clock = clock }) result ok err
-    (record { files = refl; made = refl; calls = go_on_none (calls_of h.disk) }) (disk_none h)
+    (record {
+      files = refl;
+      made = refl;
+      calls = go_on_none (calls_of h.disk);
+      unchanged = change_none (calls_of h.disk);
+    }) (disk_none h)
 
 -- ---- a host that begins anew
 
@@ -163,6 +175,7 @@ anew_disk h h' result ok err =
           (hosted_same (both_kept h.disk.start) h.disk.calls);
       made = refl;
       calls = calls_fresh (fresh_host h.disk) h.disk refl;
+      unchanged = record { more = hosted ∷ []; grown = refl; none = refl };
     }) (disk_none h)
 
 -- ---- a host over an image

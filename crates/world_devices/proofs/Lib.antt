@@ -12,3 +12,4 @@ pub mod NewLaws
 pub mod AddLaws
 pub mod StartLaws
 pub mod NewJournals
+mod CutLaws

@@ -33,6 +33,7 @@ use Rattle.sync_store.specs.declared.fault.LoadFault.{LoadFault}
 use Rattle.sync_store.specs.declared.fault.StoreFault.{StoreFault}
 use Rattle.sync_node.specs.Node.{NodeValue}
 use Rattle.world_devices.specs.Devices.{DeviceValue, HostGoesOn, IsAnew, IsDevice, LeavesDisk}
+use Rattle.world_devices.specs.Doing.{StartCut}
 use Rattle.world_devices.specs.Doing.{FallsAtStop, CameStarting, ComesOf, ComesOfImage, CrashesTo}
 use Rattle.world_devices.specs.Doing.{DeviceRestarts, IsAhead, Settles, SettlesFrom}
 use Rattle.world_devices.specs.Doing.{load_calls}
@@ -266,7 +267,7 @@ settles_behind first then most few a b c calls comes keeps settles = record {
 module _ (result : Result StoreValue LoadFault) (h h' : MemHostValue) (calls : HostGoesOn h h')
     (any : AnyImage (host_told h) (host_told h'))
     (loads : LoadsIn bundle_meaning result (host_told h) (host_told h')) where
-  load_most : (j : Journal) → HoldsAfterCrash j h → MakesAtMost (load_calls j) (host_told h)
+  pub load_most : (j : Journal) → HoldsAfterCrash j h → MakesAtMost (load_calls j) (host_told h)
       (host_told h')
   load_most j holds =
       let two : Two File = files_of (disk_files h.disk) in
@@ -405,13 +406,13 @@ restart_failed d (Err e) new at is settles left =
 pub restart_broken : (d : DeviceValue) (r : Result (Unit {0}) StepFault) (mid new : DeviceValue)
     → Settles load_calls d.host mid.host → mid.stop ≡ d.stop → new.clock ≡ d.clock
     → MatchResult r (λ _. FallsAtStop mid.stop mid.host new) (λ e. e ≡ fault.Memory)
-    → ComesOf mid.host new.host → DeviceRestarts r d new
-restart_broken d (Ok u) mid new settles stop clock off left = inr (record {
+    → ComesOf mid.host new.host → StartCut d.host mid.host → DeviceRestarts r d new
+restart_broken d (Ok u) mid new settles stop clock off left cut = inr (record {
   at = mid.host;
   since = settles.calls;
-  broken = came_starting d mid.host settles;
+  broken = (came_starting d mid.host settles, cut);
   off = subst (λ (s : _). FallsAtStop s mid.host new) stop off;
   clock = clock;
 })
-restart_broken d (Err e) mid new settles stop clock is left =
+restart_broken d (Err e) mid new settles stop clock is left cut =
     restart_failed d (Err e) new mid.host is settles left

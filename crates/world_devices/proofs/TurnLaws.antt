@@ -14,7 +14,8 @@ use Rattle.client_basic.specs.Bodies.{bundle_meaning}
 use Rattle.sync_rules.specs.declared.entries.Session.{Session}
 use Rattle.sync_rules.specs.Facts.{session_at}
 use Rattle.sync_node.specs.Courses.{BreaksBeginning, BreaksTurn, MakesTurn, is_still}
-use Rattle.sync_node.specs.OnRuns.{BeginStopped, RoundStopped}
+use Rattle.sync_node.specs.OnRuns.{BeginStopped, ByFault, RoundStopped}
+use Rattle.sync_node.specs.Cuts.{is_of_disk}
 use Rattle.sync_node.proofs.NodeRuns.{beginning_breaks, run_went, turn_breaks, turn_made}
 use Rattle.sync_node.specs.Node.{NodeValue}
 use Rattle.sync_node.specs.declared.fault.NodeFault.{NodeFault}
@@ -46,6 +47,30 @@ pub of_nodes : (P : NodeValue → NodeValue → Type 0) (n n' : NodeValue) (old 
     → old ≡ Some n → P n n' → OfNodes P old (Some n')
 of_nodes P n n' old was holds =
     subst (λ (x : Option NodeValue). OfNodes P x (Some n')) (sym was) holds
+
+-- ---- by which fault a call was broken off
+
+-- by its disk or not; it was the disk where the node says so
+pub record BrokenBy (Broken : Bool → Type 0) (x : NodeFault) : Type 0 where
+  pub by : Bool
+  pub disk : x ≡ node_fault.DiskFault → by ≡ true
+  pub broken : Broken by
+
+pub broken_by : (Broken : Bool → Type 0) (by : Bool) (x : NodeFault)
+    → (x ≡ node_fault.DiskFault → by ≡ true) → Broken by → BrokenBy Broken x
+broken_by Broken by x disk broken = record { by = by; disk = disk; broken = broken }
+
+pub broken_map : (P Q : Bool → Type 0) (x : NodeFault) → ((by : Bool) → P by → Q by)
+    → BrokenBy P x → BrokenBy Q x
+broken_map P Q x then broken =
+    record { by = broken.by; disk = broken.disk; broken = then broken.by broken.broken }
+
+pub broken_off : (P : _ → Type 0) (Q : Bool → Type 0) → ((e : _) → P e → Q (is_of_disk e))
+    → (x : NodeFault) → ByFault P x → BrokenBy Q x
+broken_off P Q each node_fault.Memory p = broken_by Q false node_fault.Memory (λ is. cc) (each _ p)
+broken_off P Q each node_fault.DiskFault p = broken_by Q true node_fault.DiskFault (λ is. refl) (each _ p)
+broken_off P Q each node_fault.Full p = broken_by Q false node_fault.Full (λ is. cc) (each _ p)
+broken_off P Q each node_fault.Closed p = absurd p
 
 -- ---- what a call came to
 
@@ -87,35 +112,41 @@ module _ {R : Type 0} (Calls Links : DeviceValue → DeviceValue → Result R St
       }))
 
   -- its disk stopped in it; or it found no memory, or filled the journal
-  pub comes_broken : DeviceLaws → {Broken : MemHostValue → Type 0} {Full : Type 0} {d old : DeviceValue}
+  pub comes_broken : DeviceLaws → {Broken : Bool → MemHostValue → Type 0} {Full : Type 0} {d old : DeviceValue}
       → d ≡ old → (new : DeviceValue) (r : Result R StepFault) (a : R)
-      → (StopsIn Broken d new → Calls d new (Ok a))
-      → (GivesUp Broken d new → Calls d new (Err fault.Memory))
+      → (StopsIn (Broken true) d new → Calls d new (Ok a))
+      → (GivesUp (λ x. (e : Bool) × Broken e x) d new → Calls d new (Err fault.Memory))
       → (Full → Calls d new (Err fault.Full)) → (IsUnlinked new → Links d new (Ok a))
       → Links d new (Err fault.Memory) → Links d new (Err fault.Full) → (f : NodeFault)
       (at : MemHostValue)
-      → MatchResult r (λ x. (x ≡ a) × FallsAtStop d.stop at new)
+      → MatchResult r (λ x. (x ≡ a) × ((f ≡ node_fault.DiskFault) × FallsAtStop d.stop at new))
       (λ e. (e ≡ fault.Memory) ⊎ ((e ≡ fault.Full) × ((f ≡ node_fault.Full) × (new.host ≡ at))))
-      → DeviceLeaves d.node d.host at → HostGoesOn d.host at → Broken at
+      → DeviceLeaves d.node d.host at → HostGoesOn d.host at
+      → BrokenBy (λ e. Broken e at) f
       → (f ≡ node_fault.Full → new.host ≡ at → Full) → ComesOf at new.host
       → (is_some new.node ≡ true → IsStill new.host) → new.clock ≡ d.clock → Comes old new r
-  comes_broken laws {d = d} seen new r a stops gives filled unlinked none full f at fails left since
+  comes_broken laws {Broken = Broken} {d = d} seen new r a stops gives filled unlinked none full f at fails left since
       broken fills comes still clock =
       let runs = leaves_runs laws d new (leaves_on d.node d.host at new.host left comes) still in
       subst (λ (o : DeviceValue). Comes o new r) seen
       (by_broken (λ x. Comes d new x) r a _ _ fails (λ off. record {
         runs = runs;
-        running = runs_unlinked new off.crashes.unlinked;
-        links = unlinked off.crashes.unlinked;
+        running = runs_unlinked new off.1.crashes.unlinked;
+        links = unlinked off.1.crashes.unlinked;
         unrefused = tt;
-        calls = stops
-            (record { at = at; since = since; broken = broken; off = off; clock = clock });
+        calls = stops (record {
+          at = at;
+          since = since;
+          broken = subst (λ (e : Bool). Broken e at) (broken.disk off.0) broken.broken;
+          off = off.1;
+          clock = clock;
+        });
       }) (record {
         runs = runs;
         running = tt;
         links = none;
         unrefused = tt;
-        calls = gives (record { at = at; since = since; broken = broken; left = comes });
+        calls = gives (record { at = at; since = since; broken = (broken.by, broken.broken); left = comes });
       }) (λ is. record {
         runs = runs;
         running = tt;
@@ -189,23 +220,36 @@ has_begun_on plan its_nonce session n n' h h' number next first free w = record 
   facts_are = w.facts;
 }
 
-pub turn_breaks_off : (n n' : NodeValue) (h h' : MemHostValue) (x : NodeFault)
-    → TurnStops n n' h h' x
-    → BreaksTurn bundle_meaning n.first n.links n.store (host_told h) (host_told h')
-turn_breaks_off n n' h h' x stopped =
-    by_any (RoundStopped bundle_meaning n.first n.links n'.links n.store n'.store (host_told h)
-    (host_told h')) (BreaksTurn bundle_meaning n.first n.links n.store (host_told h) (host_told h'))
-    (λ e w. turn_breaks bundle_meaning n.first n.links n'.links n.store n'.store (host_told h)
-    (host_told h') e w) x stopped
+pub turn_breaks_off : (n n' : NodeValue) (node : Option NodeValue) (h h' : MemHostValue)
+    (x : NodeFault) → node ≡ Some n → TurnStops n n' h h' x
+    → BrokenBy (λ e. IsSomeAnd node (λ (m : NodeValue).
+    BreaksTurn bundle_meaning e m.first m.links m.store (host_told h) (host_told h'))) x
+turn_breaks_off n n' maybe h h' x was stopped =
+    broken_off (RoundStopped bundle_meaning n.first n.links n'.links n.store n'.store (host_told h)
+    (host_told h')) (λ e. IsSomeAnd maybe (λ (m : NodeValue).
+    BreaksTurn bundle_meaning e m.first m.links m.store (host_told h) (host_told h')))
+    (λ e w. of_node (λ (m : NodeValue).
+    BreaksTurn bundle_meaning (is_of_disk e) m.first m.links m.store (host_told h) (host_told h')) n maybe was
+    (turn_breaks bundle_meaning n.first n.links n'.links n.store n'.store (host_told h)
+    (host_told h') e w)) x stopped
 
-pub beginning_breaks_off : (session : Session) (n n' : NodeValue) (h h' : MemHostValue)
-    (x : NodeFault) → BeginStops session n n' h h' x
-    → BreaksBeginning bundle_meaning session n.links n.store (host_told h) (host_told h')
-beginning_breaks_off session n n' h h' x stopped =
-    by_any (BeginStopped bundle_meaning session n.links n'.links n.store n'.store (host_told h)
-    (host_told h')) (BreaksBeginning bundle_meaning session n.links n.store (host_told h) (host_told h'))
-    (λ e w. beginning_breaks bundle_meaning session n.links n'.links n.store n'.store (host_told h)
-    (host_told h') e w) x stopped
+pub beginning_breaks_off : (plan : Plan) (its_nonce : Option (List ℕ)) (n n' : NodeValue)
+    (node : Option NodeValue) (h h' : MemHostValue)
+    (x : NodeFault) → node ≡ Some n → BeginStops (next_session plan its_nonce n) n n' h h' x
+    → BrokenBy (λ e. IsSomeAnd node (λ (m : NodeValue).
+    BreaksBeginning bundle_meaning e (next_session plan its_nonce m) m.links m.store (host_told h)
+    (host_told h'))) x
+beginning_breaks_off plan its_nonce n n' maybe h h' x was stopped =
+    let session = next_session plan its_nonce n in
+    broken_off (BeginStopped bundle_meaning session n.links n'.links n.store n'.store (host_told h)
+    (host_told h')) (λ e. IsSomeAnd maybe (λ (m : NodeValue).
+    BreaksBeginning bundle_meaning e (next_session plan its_nonce m) m.links m.store (host_told h)
+    (host_told h')))
+    (λ e w. of_node (λ (m : NodeValue).
+    BreaksBeginning bundle_meaning (is_of_disk e) (next_session plan its_nonce m) m.links m.store (host_told h)
+    (host_told h')) n maybe was
+    (beginning_breaks bundle_meaning session n.links n'.links n.store n'.store (host_told h)
+    (host_told h') e w)) x stopped
 
 -- ---- what is answered
 

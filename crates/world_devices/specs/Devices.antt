@@ -1,7 +1,7 @@
 -- A device: its host, the node on it while it runs, how many links it has had, its clock, and where its disk is to stop.
 use Rattle.std.specs.Prelude.{◌≡◌, ℕ, ◌≤◌, false, [], ◌∷◌, length, Option, IfSome, IsSomeAnd, refl}
 use Rattle.std.specs.Coded.{Coded, code_by, coded×, coded_option, coded_ℕ}
-use Rattle.outside.specs.Calls.{CallsGoOn}
+use Rattle.outside.specs.Calls.{CallsGoOn, ChangesNone}
 use Rattle.outside.specs.MemDisk.{calls_of}
 use Rattle.outside.specs.MemHost.{MemHostValue, upcoming_of}
 use Rattle.outside.specs.HostTold.{host_told}
@@ -56,6 +56,7 @@ pub record LeavesDisk (old new : MemHostValue) : Type 0 where
   pub files : (host_told new).files ≡ (host_told old).files
   pub made : new.disk.made ≡ old.disk.made
   pub calls : HostGoesOn old new
+  pub unchanged : ChangesNone (calls_of old.disk) (calls_of new.disk)
 
 -- a store that was loaded and settled, with the greatest limit
 pub record IsStarted (s : StoreValue) (host : MemHostValue) : Type 0 where

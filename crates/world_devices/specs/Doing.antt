@@ -1,13 +1,18 @@
 -- What calls of a device do: the entry that stands in its journal, a turn, and where a stop of its
 -- disk leads.
-use Rattle.std.specs.Prelude.{◌≡◌, ◌≢◌, ◌⊎◌, ℕ, ◌+◌, ◌*◌, ◌<◌, ◌≤◌, ◌^◌, Bool, false, slice_get}
+use Rattle.std.specs.Prelude.{◌≡◌, ◌≢◌, ◌⊎◌, ℕ, ◌+◌, ◌*◌, ◌<◌, ◌≤◌, ◌^◌, Bool, true, false, slice_get}
 use Rattle.std.specs.Prelude.{if◌then◌else◌, nat_lt, List, [], ◌∷◌, ◌++◌, length, Option, Some}
 use Rattle.std.specs.Prelude.{IfSome, IsSomeAnd, None, Result, Ok, Err}
 use Rattle.std.specs.Option.{option_map}
 use Rattle.outside.specs.Files.{Two, IsImage}
 use Rattle.outside.specs.HostTold.{host_told}
 use Rattle.outside.specs.Links.{Planned}
+use Rattle.std.specs.Prelude.{replicate}
+use Rattle.std.specs.List.{AllByRecursion}
 use Rattle.outside.specs.Calls.{CallsGoOn}
+use Rattle.outside.specs.Changes.{Change}
+use Rattle.outside.specs.Disk.{RelatesTold}
+use Rattle.outside.specs.Made.{BreaksIn}
 use Rattle.outside.specs.MemDisk.{MemDiskValue, calls_of, disk_files, files_of}
 use Rattle.outside.specs.MemHost.{MemHostValue, reading_set, script_of, with_script}
 use Rattle.outside.specs.MemImage.{PicturesDisk}
@@ -23,6 +28,8 @@ use Rattle.sync_rules.specs.Facts.{Journal, after_all, facts}
 use Rattle.sync_rules.specs.Hearing.{SettlesJournal}
 use Rattle.sync_rules.specs.Legal.{AllSettling}
 use Rattle.sync_rules.specs.Steps.{IsSettled}
+use Rattle.frame_journal.specs.Appends.{AreFrames, appends}
+use Rattle.sync_store.specs.Asking.{LooksBehind, barrier_calls}
 use Rattle.sync_store.specs.Store.{StoreValue}
 use Rattle.sync_store.specs.Commits.{needed}
 use Rattle.sync_store.specs.Fitting.{FitsFiles}
@@ -96,6 +103,30 @@ pub record SettlesWithin (calls : ℕ) (j : Journal) (old new : Outside) : Type 
 abbrev pub load_calls : Journal → ℕ
 load_calls j = 2 * length j + 7
 
+-- the calls of the disk that a load of this journal makes
+abbrev pub loading : Journal → List (Option Change)
+loading j = barrier_calls ++ replicate (2 * length j + 4) None
+
+-- The disk failed in an append of settling, behind a whole load of this journal.
+pub record BreaksSettling (j : Journal) (old new : Outside) : Type 0 where
+  pub file : ℕ
+  pub end : ℕ
+  pub added : List (List ℕ)
+  pub frames : AllByRecursion AreFrames added
+  pub breaks : BreaksIn (loading j ++ appends file end added) old new
+
+-- The disk failed in a start over this journal: in the barrier, in a call behind it that only looks, or in settling.
+abbrev pub StartBreaks : Journal → Outside → Outside → Type 0
+StartBreaks j old new =
+    BreaksIn barrier_calls old new
+    ⊎ ((RelatesTold LooksBehind old.calls new.calls × MakesAtMost (load_calls j) old new)
+    ⊎ BreaksSettling j old new)
+
+-- the disk of a host failed in a start over what it held
+abbrev pub StartCut : MemHostValue → MemHostValue → Type 0
+StartCut old at =
+    (j : Journal) → HoldsAfterCrash j old → StartBreaks j (host_told old) (host_told at)
+
 -- A host was settled as far as that had come: behind its calls of before no more were made of its
 -- disk than that takes, and a crash may leave what it might have left before, or what came of that
 -- by settling.
@@ -143,16 +174,17 @@ pub record GivesUp (Broken : MemHostValue → Type 0) (old new : DeviceValue) : 
 -- ---- a call of its node
 
 -- What came of it: it was done, with this answer, or the journal is full. Or it was broken off by
--- the stop of the disk, or for want of memory, where it may have been done too.
-abbrev pub DeviceCalls : {A : Type 0} → (Done : A → Type 0) → (Broken : MemHostValue → Type 0)
-    → (Full : Type 0)
+-- the stop of the disk, or for want of memory, where it may have been done too. `Broken` asks first
+-- whether its disk failed.
+abbrev pub DeviceCalls : {A : Type 0} → (Done : A → Type 0)
+    → (Broken : (disk : Bool) → MemHostValue → Type 0) → (Full : Type 0)
     → Result (Option A) StepFault → DeviceValue → DeviceValue → Type 0
 DeviceCalls Done Broken Full (Ok (Some a)) old new = KeepsOwn old new × Done a
-DeviceCalls Done Broken Full (Ok None) old new = StopsIn Broken old new
+DeviceCalls Done Broken Full (Ok None) old new = StopsIn (Broken true) old new
 DeviceCalls Done Broken Full (Err fault.Refused) old new = new ≡ old
 DeviceCalls Done Broken Full (Err fault.Full) old new = Full
 DeviceCalls {A} Done Broken Full (Err fault.Memory) old new =
-    ((new ≡ old) ⊎ GivesUp Broken old new) ⊎ (HostGoesOn old.host new.host × ((a : A) × Done a))
+    ((new ≡ old) ⊎ GivesUp (λ at. (disk : Bool) × Broken disk at) old new) ⊎ (HostGoesOn old.host new.host × ((a : A) × Done a))
 
 -- ---- an entry
 
@@ -168,12 +200,12 @@ pub record KeepsRest (old new : DeviceValue) : Type 0 where
 
 -- Adding it came there: at most the entry, with settling behind it, stands in a journal that was
 -- held, and no more calls of the disk were made than four for its batch and for each settling
--- batch.
-abbrev pub CameAdding : Entry → Option NodeValue → MemHostValue → MemHostValue → Type 0
-CameAdding e node h at =
+-- batch; which, is said by whether the disk failed.
+abbrev pub CameAdding : Entry → Option NodeValue → MemHostValue → (disk : Bool) → MemHostValue → Type 0
+CameAdding e node h disk at =
     ((j : Journal) → HoldsAfterCrash j h
     → LeavesSome (AddsAtMost bundle_meaning j (e ∷ [])) (host_told at))
-    × IsSomeAnd node (λ n. AddsWithin bundle_meaning (e ∷ []) n.store (host_told h) (host_told at))
+    × IsSomeAnd node (λ n. AddsWithin bundle_meaning disk (e ∷ []) n.store (host_told h) (host_told at))
 
 -- a call that answers Done, or that it crashed
 abbrev pub if_done : Result Ran StepFault → Result (Option (Unit {0})) StepFault
@@ -246,8 +278,8 @@ abbrev pub DeviceBeginsSession : Plan → Option (List ℕ) → Result (Option �
 DeviceBeginsSession plan its_nonce r old new =
     DeviceCalls (λ session.
     OfNodes (HasBegunOnLink plan its_nonce session old.host new.host) old.node new.node)
-    (λ at.
-    IsSomeAnd old.node (λ n. BreaksBeginning bundle_meaning (next_session plan its_nonce n) n.links
+    (λ disk at.
+    IsSomeAnd old.node (λ n. BreaksBeginning bundle_meaning disk (next_session plan its_nonce n) n.links
     n.store (host_told old.host) (host_told at)))
     (IsSomeAnd old.node (FullAtBeginning plan its_nonce old.host new.host)) r old new
 
@@ -271,8 +303,8 @@ pub record FullInTurn (h h' : MemHostValue) (n : NodeValue) : Type 0 where
 abbrev pub DeviceMakesTurn : Result (Option Bool) StepFault → DeviceValue → DeviceValue → Type 0
 DeviceMakesTurn r old new =
     DeviceCalls (λ still. OfNodes (HasTurned still old.host new.host) old.node new.node)
-    (λ at.
-    IsSomeAnd old.node (λ n. BreaksTurn bundle_meaning n.first n.links n.store
+    (λ disk at.
+    IsSomeAnd old.node (λ n. BreaksTurn bundle_meaning disk n.first n.links n.store
     (host_told old.host) (host_told at)))
     (IsSomeAnd old.node (FullInTurn old.host new.host)) r old new
 
@@ -321,9 +353,10 @@ CameStarting old at =
     → LeavesSome (SettlesJournal bundle_meaning j) (host_told at)
     × SettlesWithin (load_calls j) j (host_told old.host) (host_told at)
 
--- It starts again. Where its disk stopped in that, settling had come so far as it had, no more calls were made than that takes, and it
+-- It starts again. Where its disk stopped in that, settling had come so far as it had, by the calls up to the one that failed, and it
 -- starts once more.
 abbrev pub DeviceRestarts : Result (Unit {0}) StepFault → DeviceValue → DeviceValue → Type 0
-DeviceRestarts (Ok _) old new = StartsAgain old new ⊎ StopsIn (CameStarting old) old new
+DeviceRestarts (Ok _) old new =
+    StartsAgain old new ⊎ StopsIn (λ at. CameStarting old at × StartCut old.host at) old new
 DeviceRestarts (Err fault.Memory) old new = GivesUp (CameStarting old) old new
 DeviceRestarts (Err _) old new = ⊥

@@ -23,7 +23,7 @@ ghost use Rattle.world_devices.specs.Doing.{DeviceAddsEntry, DeviceBeginsSession
 ghost use Rattle.world_devices.specs.Doing.{IsAhead, KeepsOwn, load_calls};
 ghost use Rattle.world_devices.specs.Doing.{KeepsRest, DeviceRestarts};
 ghost use Rattle.world_devices.specs.Doing.{Settles, SettlesFrom, DeviceMakesTurn, clocked, stopped};
-ghost use Rattle.world_devices.specs.Doing.{with_plan, with_stop};
+ghost use Rattle.world_devices.specs.Doing.{StartCut, with_plan, with_stop};
 ghost use Rattle.outside.specs.Script.{planned_of};
 
 use crate::starting::{StartFault, begin, cite_laws, open_store};
@@ -215,6 +215,7 @@ impl Device {
         requires links { links_made self.old.host ≡ 0 }
         requires silent { IsSilent self.old.host }
         ensures starts { Settles load_calls self.old.host self.new.host }
+        ensures cut { IsErrOf result StartFault.DiskFault → StartCut self.old.host self.new.host }
         ensures still { is_some self.new.node ≡ true → IsStill self.new.host }
         ensures links { OnOk result (IsUnlinked self.new) }
         ensures idle { OnErr result (self.new.node ≡ None) }
@@ -271,7 +272,8 @@ impl Device {
         ensures still { is_some self.new.node ≡ true → IsStill self.new.host }
         ensures clock { self.new.clock ≡ self.old.clock }
         ensures to { MatchResult result
-            (λ a. (a ≡ crashed) × FallsAtStop self.old.stop self.old.host self.new)
+            (λ a. (a ≡ crashed) × ((fault ≡ NodeFault.DiskFault)
+            × FallsAtStop self.old.stop self.old.host self.new))
             (λ e. (e ≡ StepFault.Memory) ⊎ ((e ≡ StepFault.Full)
             × ((fault ≡ NodeFault.Full) × (self.new.host ≡ self.old.host)))) }
         ensures left { ComesOf self.old.host self.new.host }

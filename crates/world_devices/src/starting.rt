@@ -1,5 +1,5 @@
 //! A device that starts: its store is loaded and settled, and a node stands over it.
-ghost use Rattle.std.specs.Prelude.{◌≡◌, ℕ, [], IfOk, OnOk};
+ghost use Rattle.std.specs.Prelude.{◌≡◌, ℕ, [], IfErr, IfOk, IsErrOf, OnOk};
 ghost use Rattle.client_basic.specs.Bodies.{bundle_meaning};
 ghost use Rattle.outside.specs.HostTold.{host_told};
 ghost use Rattle.outside.specs.declared.limits.TheConstants.{MAX_JOURNAL};
@@ -7,7 +7,8 @@ ghost use Rattle.sync_store.specs.Ready.{IsReady};
 ghost use Rattle.world_devices.specs.Devices.{IsAnew, IsStarted, LeavesDisk, links_made};
 ghost use Rattle.world_devices.specs.Brought.{IsSilent};
 ghost use Rattle.world_devices.specs.Cited.{DeviceLaws};
-ghost use Rattle.world_devices.specs.Doing.{Settles, SettlesFrom, load_calls};
+ghost use Rattle.frame_journal.specs.Appends.{BreaksAppends};
+ghost use Rattle.world_devices.specs.Doing.{Settles, SettlesFrom, StartCut, load_calls};
 ghost use Rattle.world_devices.specs.Keeping.{AreLinksQuiet};
 ghost use Rattle.world_devices.specs.Running.{HoldsAfterCrash};
 ghost use Rattle.world_devices.specs.declared.starting.StartFault.TheVariants as start_fault;
@@ -68,6 +69,7 @@ pub(crate) fn open_store(
     ensures started { IfOk result (λ store. IsStarted store host.new) }
     ensures anew { OnOk result (IsAnew clock host.new) }
     ensures settling { Settles load_calls host.old host.new }
+    ensures cut { IsErrOf result StartFault.DiskFault → StartCut host.old host.new }
     ensures loads { (j : Journal) → HoldsAfterCrash j host.old → OnOk result (SettlesFrom j host.new) }
 {
     dial_all(host)?;
@@ -82,6 +84,7 @@ fn dial_all(host: &mut MemHost) -> Result<(), StartFault>
     ensures quiet { OnOk result (AreLinksQuiet (host_told host.new)) }
     ensures scripts { host.new.scripts ≡ host.old.scripts }
     ensures disk { LeavesDisk host.old host.new }
+    ensures starved { IfErr result (λ e. e ≡ StartFault.Memory) }
 {
     'links: for _link in 0..LINKS {
         match host.dial("tcp:world") {
@@ -97,6 +100,7 @@ fn load(alloc: Global, hasher: RandomState, host: &mut MemHost) -> Result<Store,
     ensures started { IfOk result (λ store. IsStarted store host.new) }
     ensures links { (host_told host.new).links ≡ (host_told host.old).links }
     ensures settling { Settles load_calls host.old host.new }
+    ensures cut { IsErrOf result StartFault.DiskFault → StartCut host.old host.new }
     ensures loads { (j : Journal) → HoldsAfterCrash j host.old → OnOk result (SettlesFrom j host.new) }
 {
     match Store::load(alloc, hasher, host, &Bundle::new(), MAX_JOURNAL) {
@@ -113,6 +117,8 @@ fn settle(store: Store, host: &mut MemHost) -> Result<Store, StartFault>
     ensures started { IfOk result (λ store. IsStarted store host.new) }
     ensures links { (host_told host.new).links ≡ (host_told host.old).links }
     ensures settling { Settles (λ j. 0) host.old host.new }
+    ensures cut { IsErrOf result StartFault.DiskFault → BreaksAppends store.file store.end
+        (host_told host.old) (host_told host.new) }
     ensures settles { (j : Journal) → HoldsAfterCrash j host.old → OnOk result (SettlesFrom j host.new) }
 {
     let mut store = store;

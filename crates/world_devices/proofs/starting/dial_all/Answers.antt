@@ -23,6 +23,7 @@ links-preserved c = record {
         files = c.dial.ensures.call.same_files;
         made = c.dial.ensures.call.calls.made;
         calls = c.dial.ensures.call.calls.goes_on;
+        unchanged = c.dial.ensures.call.calls.unchanged;
       });
 }
 
@@ -33,4 +34,5 @@ returns-in-Err-clause-disk c =
       files = c.dial.ensures.call.same_files;
       made = c.dial.ensures.call.calls.made;
       calls = c.dial.ensures.call.calls.goes_on;
+      unchanged = c.dial.ensures.call.calls.unchanged;
     })

@@ -7,6 +7,7 @@ use Rattle.world_devices.proofs.HostLaws.{anew_clocked, anew_linked, clock_disk,
 use Rattle.world_devices.proofs.HostLaws.{disk_then}
 use Rattle.world_devices.proofs.KeepLaws.{crash_same}
 use Rattle.world_devices.proofs.StartLaws.{ok_anyway, settles_after, settles_still}
+use Rattle.world_devices.proofs.CutLaws.{cut_shift}
 use Rattle.world_devices.proofs.starting.open_store.Goals as goal
 
 pub returns-in_err-dial_all-clause-settling : goal.returns-in_err-dial_all-clause-settling
@@ -37,3 +38,9 @@ returns-clause-loads c = λ j holds.
     (clock_disk c.dial_all.new.host c.set_clock.new.self _ c.set_clock.result c.set_clock.ensures.ok c.set_clock.ensures.err) in
     c.load.ensures.loads j
     (crash_same (λ left. stands bundle_meaning left ≡ journal j) (host_told c.args.host.now) (host_told c.set_clock.new.self) disk.files holds)
+
+pub returns-clause-cut : goal.returns-clause-cut
+returns-clause-cut c is =
+    cut_shift c.args.host.now c.set_clock.new.self c.load.new.host (disk_then c.args.host.now c.dial_all.new.host c.set_clock.new.self c.dial_all.ensures.disk
+    (clock_disk c.dial_all.new.host c.set_clock.new.self _ c.set_clock.result c.set_clock.ensures.ok c.set_clock.ensures.err))
+    (c.load.ensures.cut is)

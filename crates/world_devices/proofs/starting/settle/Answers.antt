@@ -28,3 +28,8 @@ pub returns-in-Ok-clause-started : goal.returns-in-Ok-clause-started
 returns-in-Ok-clause-started c =
     let settled = c.in-Ok.ensures.settled c.requires.ready.still_open in
     record { ready = c.settle.ensures.ready settled.answer.0; settled = settled.answer.1; limit = settled.comes.limit ∙ c.requires.limit }
+
+pub returns-in-Err-DiskFault-clause-cut : goal.returns-in-Err-DiskFault-clause-cut
+returns-in-Err-DiskFault-clause-cut c is =
+    let has = rw c.in-Err-DiskFault.field-0-is at (c.in-Err-DiskFault.ensures.settled c.requires.ready.still_open) in
+    has.comes.calls.appends.broken c.requires.ready.still_open has.answer

@@ -107,8 +107,8 @@ returns-in-Err c =
     (device_leaves c.cite_laws.ensures _ _ _ h' _ c.in-Some-node.is run
     (begin_broke _ n' _ c.attach.new.host _ run session _ stopped))
     c.attach.ensures.goes.goes.calls
-    (of_node _ _ _ c.in-Some-node.is
-    (beginning_breaks_off session c.in-Some-node.node n' c.self.inside.host h' c.in-Err.fault stopped))
+    (beginning_breaks_off plan c.args.nonce c.in-Some-node.node n' _ c.self.inside.host h' c.in-Err.fault
+    c.in-Some-node.is stopped)
     (λ is same. of_node _ _ _ c.in-Some-node.is
     (subst (λ (x : MemHostValue).
     FullAtBeginning plan c.args.nonce c.self.inside.host x c.in-Some-node.node) (sym same)

@@ -1,4 +1,5 @@
-use Rattle.std.proofs.Common.{None, Err, ◌∙◌}
+use Rattle.std.proofs.Common.{None, Err, ap, ◌∙◌}
+use Rattle.world_devices.proofs.CutLaws.{cut_shift}
 use Rattle.world_devices.specs.Devices.{DeviceValue}
 use Rattle.world_devices.specs.declared.stop.StepFault.TheVariants as fault
 use Rattle.world_devices.proofs.HostLaws.{anew_disk, disk_none, silent_fresh}
@@ -77,7 +78,9 @@ returns-in-Err-DiskFault c =
     (comes_then c.self.inside.host mid.host new.host settles.left c.break_off.ensures.left) c.break_off.ensures.still
     (restart_broken _ c.break_off.result mid new settles c.start.ensures.stop
     (c.break_off.ensures.clock ∙ c.start.ensures.clock) c.break_off.ensures.to
-    c.break_off.ensures.left) in
+    c.break_off.ensures.left
+    (cut_shift c.self.inside.host c.restart.new.self mid.host anew
+    (c.in-Err-DiskFault.ensures.cut (ap (λ e. Err e) c.in-Err-DiskFault.field-0-is)))) in
     record {
       runs = came.runs;
       running = came.running;

@@ -6,6 +6,10 @@ use Rattle.world_devices.specs.Running.{HoldsAfterCrash}
 use Rattle.world_devices.proofs.CallLaws.{ready_still}
 use Rattle.world_devices.proofs.RunningLaws.{begins_running}
 use Rattle.world_devices.proofs.StartLaws.{comes_keeps}
+use Rattle.world_devices.proofs.CutLaws.{same_fault}
+use Rattle.world_devices.specs.declared.starting.StartFault.TheVariants as start_fault
+use Rattle.world_devices.specs.Doing.{StartCut}
+use Rattle.std.proofs.Common.{Err, ap}
 use Rattle.world_devices.proofs.device.Device.start.Goals as goal
 
 pub open_store-requires-clause-silent : goal.open_store-requires-clause-silent
@@ -50,3 +54,9 @@ pub returns-clause-loads : goal.returns-clause-loads
 returns-clause-loads c = λ j holds.
     c.in_ok-store.ensures.loads j
     (subst (λ (d : DeviceValue). HoldsAfterCrash j d.host) (sym c.self.view_is) holds)
+
+pub returns-in_err-store-clause-cut : goal.returns-in_err-store-clause-cut
+returns-in_err-store-clause-cut c is =
+    subst (λ (d : DeviceValue). StartCut d.host c.open_store.new.host) c.self.view_is
+    (c.in_err-store.ensures.cut
+    (ap (λ x. Err x) (same_fault c.from_residual.result c.in_err-store.field-0.0 start_fault.DiskFault c.from_residual.ensures.1 is)))

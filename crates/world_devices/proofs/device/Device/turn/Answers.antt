@@ -71,7 +71,7 @@ returns-in-Err c =
     (λ full. full) (λ none. none) tt tt c.in-Err.fault h' c.fail.ensures.to
     (device_leaves c.cite_laws.ensures _ _ _ h' _ c.in-Some.is run (turn_broke _ n' _ c.turn.new.host _ run _ stopped))
     c.turn.ensures.goes.goes.calls
-    (of_node _ _ _ c.in-Some.is (turn_breaks_off c.in-Some.node n' c.self.inside.host h' c.in-Err.fault stopped))
+    (turn_breaks_off c.in-Some.node n' _ c.self.inside.host h' c.in-Err.fault c.in-Some.is stopped)
     (λ is same. of_node _ _ _ c.in-Some.is
     (subst (λ (x : MemHostValue). FullInTurn c.self.inside.host x c.in-Some.node) (sym same)
     (full_turn c.cite_laws.ensures _ n' c.self.inside.host h' run.runs c.turn.ensures.goes.same_limit
