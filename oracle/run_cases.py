@@ -8,7 +8,7 @@ from journal import SHORT, WHOLE, respelled
 from old_stores import bare, heard
 from sharing import NOTE
 from store_file import framed, header
-from run_model import IDLE, Node, PIECE, SHARED, record_bytes
+from run_model import IDLE, Node, PIECE, SHARED, entry_bytes, record_bytes
 
 NOTES, THREADS, FEEDS, CYCLE = (group_id(name, 0, b'd') for name in (b'note', b'thread', b'feed', b'cycle'))
 ROW_8 = '0004000100 00090002aabb 00050010000102030405060708090a0b0c0d0e0f'.replace(' ', '')
@@ -885,6 +885,136 @@ def compacted():
         say('compact')
 
 
+# ---- what goes again before its time, since a way is quicker
+
+DAY, HOUR, YEAR = 86_400_000, 3_600_000, 31_536_000_000
+
+
+def letter(now, latency, count):
+    say('clock %d' % now, 'mailbox out 0 %d %d' % (latency, count))
+
+
+def meet(now, mode, latency, *before):
+    say(*before or ['idle 0 1'], 'clock %d' % now, 'sync 1 1 0 %s %d listen:x' % (mode, latency))
+
+
+def lost_letters():
+    for mode in ('interactive', 'batch'):
+        for behind in ('', ', and the store is compacted'):
+            case('a letter of a day is lost, and they meet an hour later%s: %s' % (behind, mode))
+            one_contact()
+            for n in range(3):
+                post(NOTES, n, b'x')
+            letter(0, DAY, 100)
+            if behind:
+                say('compact')
+            for now in (HOUR, HOUR, HOUR + 3999, HOUR + 4000):
+                meet(now, mode, 1000)
+            letter(HOUR + 4000, DAY, 100)
+
+        case('ten quick tries and a lost letter: ' + mode)
+        one_contact()
+        post(NOTES, 0, b'x')
+        now = 0
+        for tried in range(10):
+            meet(now, 'batch', 1000)
+            now += 2000 * 2 ** tried
+        letter(now, DAY, 9)
+        for days in (0, 1, 30, 365):
+            letter(now + days * DAY, DAY, 9)
+            meet(now + days * DAY, mode, 1000)
+
+        case('a clock that was a year ahead: ' + mode)
+        one_contact()
+        post(NOTES, 0, b'x')
+        meet(YEAR, mode, 1000)
+        for now in (1000, 1000, 4999, 5000):
+            meet(now, mode, 1000)
+
+        case('what was asked for, and what is seen, does not go before its time: ' + mode)
+        one_contact()
+        ids = [post(NOTES, n, b'x') for n in range(4)]
+        letter(0, DAY, 100)
+        meet(HOUR, mode, 1000, 'got 0 ' + (ids_record(3, ids[:1]) + ids_record(0, ids[1:2])).hex())
+        meet(HOUR, mode, 1000)
+
+
+def quicker_letters():
+    case('so many outputs: what was not tried goes before what goes again')
+    one_contact()
+    for n in range(4):
+        post(NOTES, n, b'x')
+    for latency in (DAY, HOUR, HOUR):
+        letter(0, latency, 2)
+
+    for latencies in ((60_000, 1000), (1000, 60_000), (2000, 1000)):
+        case('two links in batch mode to one contact, of latencies %d and %d' % latencies)
+        one_contact()
+        for n in range(3):
+            post(NOTES, n, b'x')
+        say('idle 0 2', 'idle 1 2', 'clock 0', 'sync 2 1 0 batch %d listen:x 0 batch %d listen:y' % latencies)
+
+    for mode in ('interactive', 'batch'):
+        case('eight links of halving latency: ' + mode)
+        one_contact()
+        post(NOTES, 0, b'x')
+        links = ['0 %s %d listen:%d' % (mode, 2 ** (20 - link), link) for link in range(8)]
+        say(*('idle %d 2' % link for link in range(8)), 'clock 0', 'sync 2 1 ' + ' '.join(links))
+
+        case('times and latencies at their borders: ' + mode)
+        one_contact()
+        post(NOTES, 0, b'x')
+        for now, latency in ((0, 4_294_967_295), (0, 4_294_967_294), (0, 2_147_483_648), (0, 2_147_483_647), (0, 1), (0, 1), (2 ** 64 - 2, 1),
+                             (2 ** 64 - 1, 1), (2 ** 64 - 2, 1), (0, 1), (0, 4_294_967_295)):
+            meet(now, mode, latency)
+
+
+def sooner_rows():
+    """A row of each number of tries and each expiry, stated in a brief account, and what goes by it."""
+    one = [(('contact', 0),), (('group', b'note', 0, b'd'),), (('level', 0, NOTES, 2),)]
+    mine = message_id(NOTES, 0, b'x')
+    held = [(('kept', 'self', (NOTES, 0, b'x')),), (('judged', mine), ('deliver', mine))]
+    name = lambda id_: bytes(4)
+    for tries, expiry in ((1, 4001), (1, 4000), (1, 2 ** 64 - 1), (61, 2 ** 64 - 1), (62, 2 ** 64 - 1), (63, 2 ** 64 - 1), (64, 2 ** 64 - 1)):
+        for asked in (False, True):
+            case('%d tries and %d, %s' % (tries, expiry, 'asked' if asked else 'not asked'))
+            row = (('tried', 0, mine, False, False, asked, tries, expiry),)
+            payloads = [b''.join(entry_bytes(entry, name) for entry in batch) for batch in [(('brief', 0),), *one, *held, row]]
+            for latency in (1, 1000):
+                for mode in ('interactive', 'batch'):
+                    say('old ' + framed(header(2, 1), payloads).hex())
+                    meet(0, mode, latency)
+
+
+def wrong_outs():
+    """Journals with an output that goes before its time: where it is due, and where something else is."""
+    one = [(('contact', 0),), (('group', b'note', 0, b'd'),), (('level', 0, NOTES, 2),)]
+    ids = [message_id(NOTES, n, b'x') for n in range(2)]
+    name = lambda id_: ids.index(id_).to_bytes(4, 'big')
+    note = lambda n: [(('author', (NOTES, n, b'x')),), (('judged', ids[n]), ('deliver', ids[n]))]
+    session = lambda number, mode, latency: (('session', number, 0, mode, latency, None),)
+    out = lambda number, now, what, n: (('out', number, now, what, [ids[n]]),)
+    front = [*one, *note(0), session(0, 'batch', DAY), out(0, 0, 'send', 0)]
+    new = note(1)
+    for mode, what in (('batch', 'send'), ('interactive', 'offers')):
+        case('outputs that go before their time, and others that may not: ' + mode)
+        quick = session(1, mode, 1000)
+        # a try behind a letter of a day is sooner, an hour later, by a way of less than 42,300 seconds
+        first, second = out(1, HOUR, what, 0), out(1, HOUR, what, 1)
+        for batches in (
+                [quick, first], [quick, first, first], [session(1, mode, 42_300_000), first], [session(1, mode, 42_299_999), first], [*new, quick, first],
+                [*new, quick, second, first], [*new, quick, second, first, out(1, HOUR, what, 1)], [quick, out(1, 2 * DAY, what, 0)]):
+            payloads = [b''.join(entry_bytes(entry, name) for entry in batch) for batch in [*front, *batches]]
+            say('load ' + framed(header(2, 1), payloads).hex())
+
+
+def quicker():
+    lost_letters()
+    quicker_letters()
+    sooner_rows()
+    wrong_outs()
+
+
 def main():
     named()
     sessions()
@@ -905,6 +1035,7 @@ def main():
     for seed in range(40, 70):
         case('drawn %d, compacted behind each run' % seed)
         Drawn(seed).play(['compact', 'states'])
+    quicker()
 
 
 if __name__ == '__main__':

@@ -69,6 +69,10 @@ class Held:
         self.id = message_id(group, timestamp, body)
 
 
+def expiry_after(now, latency, tries):
+    return min(now + 2 * latency * 2**(tries - 1), MAX64)
+
+
 class Row:
     def __init__(self):
         self.seen = self.owed = self.asked = False
@@ -193,7 +197,7 @@ class Journal:
                 self.wants(contact).remove(id_)
             else:
                 row.tries = min(row.tries + 1, 64)
-                row.expiry = min(now + 2 * latency * 2**(row.tries - 1), MAX64)
+                row.expiry = expiry_after(now, latency, row.tries)
                 if what == 'send':
                     row.asked = False
 
@@ -249,6 +253,12 @@ class Journal:
             return rest[0] in self.clients and rest[1] == 0 and not self.group(group_id(*rest))
         if kind == 'level':
             return rest[0] < self.contacts and bool(self.group(rest[1]))
+        if kind == 'author':
+            return self.may_keep('self', rest[0])
+        if kind == 'session':
+            return rest[0] == self.begun and rest[1] < self.contacts
+        if kind == 'out':
+            return rest[0] in self.sessions and self.due(*rest[:2]) == rest[2:]
         return kind == 'kept' and self.start == 'opening' and self.may_keep(*rest)
 
     def follows(self, batch, test):
@@ -315,7 +325,7 @@ class Journal:
 
     # ---- what is due
     def due(self, session, now):
-        _, contact, mode, _, _ = self.sessions[session]
+        _, contact, mode, latency, _ = self.sessions[session]
         owed = [h.id for h in self.held if self.row(contact, h.id).owed]
         if owed:
             return ('acks', owed[:MAX_IDS])
@@ -333,7 +343,14 @@ class Journal:
                    if not self.row(contact, h.id).asked and self.row(contact, h.id).expiry <= now]
             if ids:
                 return ('offers', ids[:MAX_IDS])
-        return None
+        sooner = [h.id for h in sendable if self.is_sooner(self.row(contact, h.id), latency, now)]
+        if not sooner:
+            return None
+        return ('offers', sooner[:MAX_IDS]) if mode == 'interactive' else ('send', sooner[:1])
+
+    def is_sooner(self, row, latency, now):
+        """A try now, on a session of this latency, sets an expiry less than the one that stands."""
+        return not row.asked and expiry_after(now, latency, min(row.tries + 1, 64)) < row.expiry
 
 
 # ---- the brief account of a journal
@@ -1000,7 +1017,7 @@ class Cases:
 
 
 def loaded(content):
-    """What a load comes to of a file whose journal has the kinds of a brief account alone."""
+    """What a load comes to of a file whose journal has the kinds of a brief account, posts, sessions and outputs alone."""
     journal, spelled = Journal(), format_of(content)
     for at, payload in frames(content):
         parts = list(entries(payload, spelled)) if set_of_tags(payload) else []

@@ -1,10 +1,12 @@
 -- Messages that are brought change no facts.
-use Rattle.std.proofs.Common.{◌≡◌, ℕ, zero, suc, Bool, List, replicate, slice_index_or, refl, ◌∙◌, ap, subst}
+use Rattle.std.proofs.Common.{◌≡◌, ℕ, zero, suc, Bool, List, [], ◌∷◌, ◌++◌, replicate, slice_index_or, refl, ◌∙◌, ap, subst}
 use Rattle.sync_rules.specs.declared.entries.Entry.{Entry}
 use Rattle.sync_rules.specs.Allows.{allows}
 use Rattle.sync_rules.specs.Clients.{Meaning}
 use Rattle.sync_rules.specs.Facts.{Facts, after_all}
+use Rattle.journal_audit.specs.declared.early.Mark.{Mark}
 use Rattle.journal_audit.specs.declared.facts.PlainFacts.{PlainFacts}
+use Rattle.journal_audit.specs.Early.{mark_of}
 use Rattle.journal_audit.specs.Changes.{BecomesFacts, BecomesKnown}
 use Rattle.journal_audit.specs.Plain.{facts_of}
 use Rattle.journal_audit.specs.Playing.{IsOfLegal, PlaysEntries}
@@ -18,6 +20,13 @@ pub none_yet : (n contact : ℕ) → slice_index_or (zeros n) contact 0 ≡ zero
 none_yet zero contact = refl
 none_yet (suc n) zero = refl
 none_yet (suc n) (suc contact) = none_yet n contact
+
+-- marks that are all at the first message, with one more
+pub none_marked : (ms : List Mark) (m : Mark) → m.from ≡ 0 → ((contact : ℕ) → (mark_of ms contact).from ≡ 0) → (contact : ℕ) → (mark_of (ms ++ m ∷ []) contact).from ≡ 0
+none_marked [] m e all zero = e
+none_marked [] m e all (suc contact) = refl
+none_marked (x ∷ ms) m e all zero = all zero
+none_marked (x ∷ ms) m e all (suc contact) = none_marked ms m e (λ c. all (suc c)) contact
 
 -- ---- one after the other
 

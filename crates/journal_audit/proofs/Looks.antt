@@ -9,12 +9,14 @@ use Rattle.sync_rules.specs.declared.entries.Mode.{Mode}
 use Rattle.sync_rules.specs.declared.entries.Mode.TheVariants as mode
 use Rattle.sync_rules.specs.Facts.{Held, Id, Row, is_level_shared, level_at, row_at}
 use Rattle.sync_rules.specs.Lists.{is_among}
-use Rattle.sync_rules.specs.Sessions.{first_id, ids_where, is_author, is_ripe, is_sendable}
+use Rattle.sync_rules.specs.Sessions.{first_id, goes_sooner, ids_where, is_author, is_ripe, is_sendable}
+use Rattle.journal_audit.specs.Early.{goes_early, mark_of}
+use Rattle.journal_audit.proofs.Stands.{late_still}
 use Rattle.journal_audit.specs.declared.facts.PlainFacts.{PlainFacts}
 use Rattle.journal_audit.specs.declared.messages.Line.{Line}
 use Rattle.journal_audit.specs.declared.ready.Ready.{Ready}
 use Rattle.journal_audit.specs.Lines.{held_in, held_of}
-use Rattle.journal_audit.specs.Looks.{ids_at, is_line_sendable, is_offered, is_owed, is_sent, picked, seen_of}
+use Rattle.journal_audit.specs.Looks.{ids_at, is_line_sendable, is_offered, is_owed, is_sent, is_sooner, picked, seen_of}
 use Rattle.journal_audit.specs.Bringing.{IsBroughtAt}
 use Rattle.journal_audit.specs.Numbers.{from_of, has, has_alarm, has_for}
 use Rattle.journal_audit.specs.Plain.{IsPlainSound, facts_of, shared_in}
@@ -50,6 +52,10 @@ pub offered_line : (p : PlainFacts) (contact now n : ℕ) (l : Line) → IsPlain
 offered_line p contact now n l sound at =
     let row = row_at p.rows contact l.id in
     ap (λ b. b && (not row.asked && nat_le row.expiry now)) (sendable_line p contact n l sound at)
+
+pub sooner_line : (p : PlainFacts) (contact latency now n : ℕ) (l : Line) → IsPlainSound p → slice_get p.messages.lines n ≡ Some l
+    → (is_line_sendable p.levels contact l (row_at p.rows contact l.id) && goes_sooner latency now (row_at p.rows contact l.id)) ≡ is_sooner (seen_of p) contact latency now (held_of l)
+sooner_line p contact latency now n l sound at = ap (λ b. b && goes_sooner latency now (row_at p.rows contact l.id)) (sendable_line p contact n l sound at)
 
 -- ---- lists that are cut
 
@@ -202,3 +208,38 @@ offered_among p contact now ns sound few brought ascends same =
     let line = held_get p.messages.lines n h at in
     ap (is_offered (seen_of p) contact now) line.is
     ∙ not_true (is_offered (seen_of p) contact now (held_of line.line)) (offered_in p contact now n line.line sound few brought line.at (sym (same n) ∙ out)))
+
+-- ---- before a contact's mark
+
+late_not : (d l s o g : Bool) → (not s && g) ≡ false → ((d && (l && (not s && o))) && g) ≡ false
+late_not true true true o g e = refl
+late_not true true false true g e = e
+late_not true true false false g e = refl
+late_not true false s o g e = refl
+late_not false l s o g e = refl
+
+-- where none of the first messages passes, those behind them are all
+pub late_front : (test : Held → Bool) (held : List Held) (from : ℕ) → ((n : ℕ) (h : Held) → n < from → slice_get held n ≡ Some h → test h ≡ false)
+    → ids_where test (drop from held) ≡ ids_where test held
+late_front test held zero none = refl
+late_front test [] (suc from) none = refl
+late_front test (h ∷ held) (suc from) none =
+    late_front test held from (λ n x low at. none (suc n) x (omega (arith, low)) at)
+    ∙ ap (λ b. cond b (h.id ∷ ids_where test held) (ids_where test held)) (sym (none zero h (omega arith) refl))
+
+pub sooner_from : (p : PlainFacts) (contact latency now start : ℕ) → IsPlainSound p → start ≤ (mark_of p.early contact).from
+    → ((n : ℕ) → n < start → (mark_of p.early contact).latency ≤ latency) → ((n : ℕ) → n < start → (mark_of p.early contact).now ≤ now)
+    → ids_where (is_sooner (seen_of p) contact latency now) (drop start (held_in p.messages.lines)) ≡ ids_where (is_sooner (seen_of p) contact latency now) (held_in p.messages.lines)
+sooner_from p contact latency now start sound begins quick early =
+    late_front (is_sooner (seen_of p) contact latency now) (held_in p.messages.lines) start
+    (λ n h low at.
+    let line = held_get p.messages.lines n h at in
+    let l = line.line in
+    let mark = mark_of p.early contact in
+    let under : n < mark.from = omega (arith, low, begins) in
+    let row : Row = row_at p.rows contact l.id in
+    let off : goes_early latency now row ≡ false =
+    late_still mark.latency latency mark.now now row (quick n low) (early n low) (sound.late contact n l line.at under) in
+    ap (is_sooner (seen_of p) contact latency now) line.is
+    ∙ late_not (is_among (facts_of p).delivered l.id) (is_level_shared (level_at p.levels contact l.message.group)) row.seen
+    (is_author l.origin || is_among (shared_in p.messages.lines) l.id) (goes_sooner latency now row) off)

@@ -16,7 +16,9 @@ use Rattle.sync_rules.proofs.Elements.{same_id-is}
 use Rattle.sync_rules.proofs.ScanLaws.{level_at_set}
 use Rattle.sync_rules.proofs.Sound.{group_at-push}
 use Rattle.journal_audit.specs.declared.messages.Line.{Line}
+use Rattle.journal_audit.specs.declared.early.Mark.{Mark}
 use Rattle.journal_audit.specs.declared.ready.Ready.{Ready}
+use Rattle.journal_audit.specs.Early.{AreLate, goes_early, lowered, mark_of}
 use Rattle.journal_audit.specs.Lines.{Kept, held_in}
 use Rattle.journal_audit.specs.Numbers.{CursorList, from_of}
 use Rattle.journal_audit.specs.Plain.{AreGrouped, AreSound, OwesAcks}
@@ -35,9 +37,9 @@ not_true false h = refl
 
 -- ---- nothing
 
-pub sound_none : (groups : List Known) (levels : LevelMap) (kept : Kept) (rows : Rows) (waiting : List ℕ) (sleepers : SleeperLists) (owed : List (List ℕ)) (ready : Ready)
-    → levels ≡ fin_map.empty → kept.lines ≡ [] → kept.delivered ≡ [] → rows ≡ fin_map.empty → ((contact : ℕ) → from_of ready.cursors contact ≡ 0) → AreSound 0 groups levels kept rows waiting sleepers owed ready
-sound_none groups levels kept rows waiting sleepers owed ready no_levels no_lines no_delivered no_rows no_cursor =
+pub sound_none : (groups : List Known) (levels : LevelMap) (kept : Kept) (rows : Rows) (waiting : List ℕ) (sleepers : SleeperLists) (owed : List (List ℕ)) (ready : Ready) (early : List Mark)
+    → levels ≡ fin_map.empty → kept.lines ≡ [] → kept.delivered ≡ [] → rows ≡ fin_map.empty → ((contact : ℕ) → from_of ready.cursors contact ≡ 0) → AreSound 0 groups levels kept rows waiting sleepers owed ready early
+sound_none groups levels kept rows waiting sleepers owed ready early no_levels no_lines no_delivered no_rows no_cursor =
     let R : List Line → Type 0 = λ ls. AreGrouped groups (held_in ls) in
     let O : List Line → Type 0 = λ ls. OwesAcks (held_in ls) rows owed in
     record {
@@ -54,6 +56,7 @@ sound_none groups levels kept rows waiting sleepers owed ready no_levels no_line
       owes = subst O (sym no_lines) (λ contact n h below at. cc);
       stand = λ contact n l few at. let wrong : None ≡ Some l = ap (λ (ls : List Line). slice_get ls n) (sym no_lines) ∙ at in cc;
       within = λ contact. let none = no_cursor contact in omega (arith, none);
+      late = λ contact n l at. let wrong : None ≡ Some l = ap (λ (ls : List Line). slice_get ls n) (sym no_lines) ∙ at in cc;
     }
   where
     unset : (contact : ℕ) (group : Id) → level_at levels contact group ≡ level.Invisible
@@ -61,11 +64,11 @@ sound_none groups levels kept rows waiting sleepers owed ready no_levels no_line
         ∙ ap (λ (o : Option Level). unwrap_or o level.Invisible)
         (fin_map.get-empty pair_cmp (contact, group))
 
-module _ (contacts : ℕ) (groups : List Known) (levels : LevelMap) (kept : Kept) (rows : Rows) (waiting : List ℕ) (sleepers : SleeperLists) (owed : List (List ℕ)) (ready : Ready)
-    (s : AreSound contacts groups levels kept rows waiting sleepers owed ready) where
+module _ (contacts : ℕ) (groups : List Known) (levels : LevelMap) (kept : Kept) (rows : Rows) (waiting : List ℕ) (sleepers : SleeperLists) (owed : List (List ℕ)) (ready : Ready) (early : List Mark)
+    (s : AreSound contacts groups levels kept rows waiting sleepers owed ready early) where
   -- ---- contacts, groups and levels
 
-  pub sound_contact : contacts < 256 → AreSound (contacts + 1) groups levels kept rows waiting sleepers owed ready
+  pub sound_contact : contacts < 256 → AreSound (contacts + 1) groups levels kept rows waiting sleepers owed ready early
   sound_contact below = record {
     lines = s.lines;
     levels_fit = record {
@@ -79,6 +82,7 @@ module _ (contacts : ℕ) (groups : List Known) (levels : LevelMap) (kept : Kept
     owes = s.owes;
     stand = s.stand;
     within = s.within;
+    late = s.late;
   }
 
   grouped_more : (x : Known) (hs : List Held) → AreGrouped groups hs → AreGrouped (groups ++ x ∷ []) hs
@@ -87,9 +91,9 @@ module _ (contacts : ℕ) (groups : List Known) (levels : LevelMap) (kept : Kept
       let parts = and_parts (is_some (group_at groups h.message.group)) _ all in
       and_from (is_some (group_at (groups ++ x ∷ []) h.message.group)) _ (ap is_some (group_at-push groups x h.message.group parts.0) ∙ parts.0) (grouped_more x hs parts.1)
 
-  pub sound_group : (x : Known) (groups' : List Known) → groups' ≡ groups ++ x ∷ [] → AreSound contacts groups' levels kept rows waiting sleepers owed ready
+  pub sound_group : (x : Known) (groups' : List Known) → groups' ≡ groups ++ x ∷ [] → AreSound contacts groups' levels kept rows waiting sleepers owed ready early
   sound_group x groups' more =
-      let At : List Known → Type 0 = λ gs. AreSound contacts gs levels kept rows waiting sleepers owed ready in
+      let At : List Known → Type 0 = λ gs. AreSound contacts gs levels kept rows waiting sleepers owed ready early in
       subst At (sym more)
       (record {
         lines = s.lines;
@@ -104,11 +108,12 @@ module _ (contacts : ℕ) (groups : List Known) (levels : LevelMap) (kept : Kept
         owes = s.owes;
         stand = s.stand;
         within = s.within;
+        late = s.late;
       })
 
   pub sound_level : (c : ℕ) (g : Id) (l : Level) (levels' : LevelMap) (cursors' : CursorList) → c < contacts → is_some (group_at groups g) ≡ true → levels' ≡ put_level levels (c, g) l
       → ((x : ℕ) → from_of cursors' x ≡ cond (nat_eq x c) 0 (from_of ready.cursors x))
-      → AreSound contacts groups levels' kept rows waiting sleepers owed (record ready { cursors = cursors' })
+      → AreSound contacts groups levels' kept rows waiting sleepers owed (record ready { cursors = cursors' }) early
   sound_level c g l levels' cursors' below known put from_is = record {
     lines = s.lines;
     levels_fit = record { few = s.levels_fit.few; shown = λ x group. shown x group _ refl; hidden = λ x group beyond. hidden x group beyond };
@@ -118,6 +123,7 @@ module _ (contacts : ℕ) (groups : List Known) (levels : LevelMap) (kept : Kept
     owes = s.owes;
     stand = stand_level levels levels' kept rows ready cursors' c s.lines s.stand others from_is;
     within = within_set kept ready cursors' c 0 s.within (omega arith) from_is;
+    late = s.late;
   }
     where
       is : (x : ℕ) (group : Id) → level_at levels' x group ≡ cond (nat_eq x c && same_id group g) l (level_at levels x group)

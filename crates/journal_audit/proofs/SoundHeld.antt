@@ -1,13 +1,16 @@
 -- What holds of plain facts stays so when a message is held, and when something becomes of one.
-use Rattle.std.proofs.Common.{◌≡◌, ℕ, ◌⊎◌, Bool, true, false, cond, ◌&&◌, ◌||◌, List, [], ◌∷◌, ◌++◌, length, Option, Some, None, refl, sym, ◌∙◌, ap, subst, inl, inr, is_some, nat_eq, eq-eqb, eqb-true}
+use Rattle.std.proofs.Common.{◌≡◌, ℕ, ◌⊎◌, Bool, true, false, cond, ◌&&◌, ◌||◌, List, [], ◌∷◌, ◌++◌, length, Option, Some, None, refl, sym, ◌∙◌, ap, subst, inl, inr, is_some, nat_eq, nat_lt, arith, eq-eqb, eqb-true}
 use Rattle.std.specs.List.{slice_get}
 use Rattle.std.proofs.lemmas.Bool.{and_from, and_parts, false≢true, or_right}
+use Rattle.std.proofs.lemmas.Bool.Decides.{nat_tests}
 use Rattle.std.proofs.lemmas.Option.{slice_get_within}
-use Rattle.sync_rules.specs.Facts.{Facts, Held, Id, Known, LevelMap, Row, Rows, group_at, held_at, is_held, row_at}
+use Rattle.sync_rules.specs.Facts.{Facts, Held, Id, Known, LevelMap, Row, Rows, expiry_after, one_more_try, group_at, held_at, is_held, row_at}
 use Rattle.sync_rules.specs.Steps.{step_open}
 use Rattle.sync_rules.proofs.Sound.{held_at-push}
 use Rattle.journal_audit.specs.declared.messages.Line.{Line}
+use Rattle.journal_audit.specs.declared.early.Mark.{Mark}
 use Rattle.journal_audit.specs.declared.ready.Ready.{Ready}
+use Rattle.journal_audit.specs.Early.{AreLate, goes_early, lowered, mark_of}
 use Rattle.journal_audit.specs.Lines.{AreLines, Kept, delivered_line, held_in, held_of, invalid_line, judged_line, line_changed}
 use Rattle.journal_audit.specs.Numbers.{has}
 use Rattle.journal_audit.specs.Plain.{AreGrouped, AreSound, HasPlainRows, OwesAcks}
@@ -25,6 +28,9 @@ never b holds fails = false≢true (sym fails ∙ holds)
 not_true : (b : Bool) → (b ≡ true → ⊥) → b ≡ false
 not_true true h = absurd (h refl)
 not_true false h = refl
+
+not_below : (n : ℕ) → nat_lt n 0 ≡ false
+not_below n = grind (arith, nat_tests)
 
 -- a set to which numbers were added
 pub added : (t old : Bool) → cond t true old ≡ false → (t ≡ false) × (old ≡ false)
@@ -53,8 +59,8 @@ still_held hs h id none = by (held_at hs id) refl where
   by None e = ap is_some e
   by (Some x) e = absurd (never (is_held (hs ++ h ∷ []) id) (ap is_some (held_at-push hs h id x e)) none)
 
-module _ (contacts : ℕ) (groups : List Known) (levels : LevelMap) (kept : Kept) (rows : Rows) (waiting : List ℕ) (sleepers : SleeperLists) (owed : List (List ℕ)) (ready : Ready)
-    (s : AreSound contacts groups levels kept rows waiting sleepers owed ready) where
+module _ (contacts : ℕ) (groups : List Known) (levels : LevelMap) (kept : Kept) (rows : Rows) (waiting : List ℕ) (sleepers : SleeperLists) (owed : List (List ℕ)) (ready : Ready) (early : List Mark)
+    (s : AreSound contacts groups levels kept rows waiting sleepers owed ready early) where
   -- ---- one message more
 
   module _ (kept' : Kept) (waiting' : List ℕ) (l : Line) (more : kept'.lines ≡ kept.lines ++ l ∷ []) (same : kept'.delivered ≡ kept.delivered)
@@ -89,7 +95,15 @@ module _ (contacts : ℕ) (groups : List Known) (levels : LevelMap) (kept : Kept
           | inr both ↦ ap (λ (k : Held). (row_at rows c k.id).owed) both.1 ∙ ap (λ (r : Row). r.owed) (s.rows_fit c l.id new)
         ]
 
-    pub sound_held : AreSound contacts groups levels kept' rows waiting' sleepers owed ready
+    late_held : AreLate kept' rows early
+    late_held c m x at low =
+        elim (old_or_new kept.lines l m x (ap (λ (ls : List Line). slice_get ls m) (sym more) ∙ at)).cases [
+          | inl old ↦ s.late c m x old low
+          | inr both ↦ ap (λ (y : Line). goes_early (mark_of early c).latency (mark_of early c).now (row_at rows c y.id)) both.1
+              ∙ (ap (goes_early (mark_of early c).latency (mark_of early c).now) (s.rows_fit c l.id new) ∙ not_below (expiry_after (mark_of early c).now (mark_of early c).latency (one_more_try 0)))
+        ]
+
+    pub sound_held : AreSound contacts groups levels kept' rows waiting' sleepers owed ready early
     sound_held = record {
       lines = lines_push kept kept' l s.lines more same new undelivered;
       levels_fit = s.levels_fit;
@@ -99,13 +113,14 @@ module _ (contacts : ℕ) (groups : List Known) (levels : LevelMap) (kept : Kept
       owes = owes;
       stand = stand_held levels kept kept' rows ready l s.stand more same undelivered;
       within = within_same kept kept' ready s.within same;
+      late = late_held;
     }
 
   -- ---- what became of a message
 
   changed_so : (change : Line → Line) → ((l : Line) → held_of (change l) ≡ held_of l) → (kept' : Kept) (n : ℕ) (waiting' : List ℕ) (sleepers' : SleeperLists)
       → kept'.lines ≡ line_changed change n kept.lines → AreLines kept' → WaitsOrRests kept' waiting' sleepers' → AreStanding levels kept' rows ready → AreWithin kept' ready
-      → AreSound contacts groups levels kept' rows waiting' sleepers' owed ready
+      → AreSound contacts groups levels kept' rows waiting' sleepers' owed ready early
   changed_so change held kept' n waiting' sleepers' changed lines waits stand within =
       let hs : held_in kept'.lines ≡ held_in kept.lines = ap held_in changed ∙ same_held change held n kept.lines in
       record {
@@ -117,13 +132,23 @@ module _ (contacts : ℕ) (groups : List Known) (levels : LevelMap) (kept : Kept
         owes = subst (λ k. OwesAcks k rows owed) (sym hs) s.owes;
         stand = stand;
         within = within;
+        late = late_changed;
       }
+    where
+      late_changed : AreLate kept' rows early
+      late_changed c m x at low =
+          let was = was_line change n kept.lines m x (ap (λ (ls : List Line). slice_get ls m) (sym changed) ∙ at) in
+          let same : x.id ≡ was.before.id = elim was.became [
+            | inl both ↦ ap (λ (y : Line). y.id) both.1 ∙ ap (λ (h : Held). h.id) (held was.before)
+            | inr both ↦ ap (λ (y : Line). y.id) both.1
+          ] in
+          ap (λ (i : Id). goes_early (mark_of early c).latency (mark_of early c).now (row_at rows c i)) same ∙ s.late c m was.before was.at low
 
   pub lines_judged : (kept' : Kept) (n : ℕ) → kept'.lines ≡ line_changed judged_line n kept.lines → kept'.delivered ≡ kept.delivered → AreLines kept'
   lines_judged kept' n changed same = lines_changed judged_line (λ l. refl) (λ l. refl) kept kept' n s.lines changed same
 
   pub sound_judged : (kept' : Kept) (n : ℕ) (waiting' : List ℕ) (sleepers' : SleeperLists) → kept'.lines ≡ line_changed judged_line n kept.lines → kept'.delivered ≡ kept.delivered
-      → LaysDown kept' waiting waiting' sleepers sleepers' → AreSound contacts groups levels kept' rows waiting' sleepers' owed ready
+      → LaysDown kept' waiting waiting' sleepers sleepers' → AreSound contacts groups levels kept' rows waiting' sleepers' owed ready early
   sound_judged kept' n waiting' sleepers' changed same lays =
       changed_so judged_line (λ l. refl) kept' n waiting' sleepers' changed (lines_judged kept' n changed same) waits
       (stand_changed judged_line levels kept kept' rows ready n (λ c m l stands. stands) s.stand changed same) (within_same kept kept' ready s.within same)
@@ -167,7 +192,7 @@ module _ (contacts : ℕ) (groups : List Known) (levels : LevelMap) (kept : Kept
       → kept'.lines ≡ line_changed change n kept.lines → AreLines kept' → DiffersAt kept kept' l.id → AreStanding levels kept' rows ready → AreWithin kept' ready
       → ((m : ℕ) → has waiting' m ≡ false
       → (cond (nat_eq m n && l.judged) false (has waiting m) ≡ false) × (is_under sleepers l.id m ≡ true → sleeps_on kept' l.id (slice_get kept'.lines m) ≡ true))
-      → AreSound contacts groups levels kept' rows waiting' sleepers owed ready
+      → AreSound contacts groups levels kept' rows waiting' sleepers owed ready early
   ended_so change held judged ends kept' n l waiting' here changed lines differs stand within stops =
       changed_so change held kept' n waiting' sleepers changed lines waits stand within
     where
@@ -215,7 +240,7 @@ module _ (contacts : ℕ) (groups : List Known) (levels : LevelMap) (kept : Kept
       → kept'.delivered ≡ kept.delivered
       → ((m : ℕ) → has waiting' m ≡ false
       → (cond (nat_eq m n && l.judged) false (has waiting m) ≡ false) × (is_under sleepers l.id m ≡ true → sleeps_on kept' l.id (slice_get kept'.lines m) ≡ true))
-      → AreSound contacts groups levels kept' rows waiting' sleepers owed ready
+      → AreSound contacts groups levels kept' rows waiting' sleepers owed ready early
   sound_refused kept' n l waiting' here changed same stops =
       ended_so invalid_line (λ x. refl) (λ x. refl) invalid_ends kept' n l waiting' here changed (lines_refused kept' n changed same)
       (differs_invalid kept kept' n l here changed same)
@@ -229,7 +254,7 @@ module _ (contacts : ℕ) (groups : List Known) (levels : LevelMap) (kept : Kept
       → kept'.delivered ≡ kept.delivered ++ n ∷ []
       → ((m : ℕ) → has waiting' m ≡ false
       → (cond (nat_eq m n && l.judged) false (has waiting m) ≡ false) × (is_under sleepers l.id m ≡ true → sleeps_on kept' l.id (slice_get kept'.lines m) ≡ true))
-      → AreSound contacts groups levels kept' rows waiting' sleepers owed ready
+      → AreSound contacts groups levels kept' rows waiting' sleepers owed ready early
   sound_delivered kept' n l waiting' here changed pushed stops =
       ended_so delivered_line (λ x. refl) (λ x. refl) (λ x. refl) kept' n l waiting' here changed (lines_ended kept' n l here changed pushed)
       (differs_delivered kept kept' n l here changed pushed)

@@ -1,5 +1,5 @@
 -- What holds of plain facts stays so when a row changes.
-use Rattle.std.proofs.Common.{◌≡◌, ℕ, Bool, true, false, cond, ◌&&◌, List, Some, refl, sym, ◌∙◌, ap, nat_eq, eq-eqb, eqb-true, is_some}
+use Rattle.std.proofs.Common.{◌≡◌, ℕ, ◌<◌, arith, Bool, subst, true, false, cond, ◌&&◌, List, Some, refl, sym, ◌∙◌, ap, nat_eq, eq-eqb, eqb-true, is_some}
 use Rattle.std.specs.List.{slice_get}
 use Rattle.std.proofs.lemmas.Bool.{and_parts, false≢true}
 use Rattle.sync_rules.specs.Facts.{Held, Id, Known, LevelMap, Row, Rows, change_row, is_held, row_at}
@@ -8,7 +8,9 @@ use Rattle.sync_rules.specs.Views.{IsPlace, place_of}
 use Rattle.sync_rules.proofs.Elements.{same_id-is, same_id_itself}
 use Rattle.sync_rules.proofs.RowLaws.{hits, row_at_change}
 use Rattle.journal_audit.specs.declared.messages.Line.{Line}
+use Rattle.journal_audit.specs.declared.early.Mark.{Mark}
 use Rattle.journal_audit.specs.declared.ready.Ready.{Ready}
+use Rattle.journal_audit.specs.Early.{AreLate, goes_early, lowered, mark_of}
 use Rattle.journal_audit.specs.Lines.{Kept, held_in, held_of}
 use Rattle.journal_audit.specs.Numbers.{has_for}
 use Rattle.journal_audit.specs.Plain.{AreSound, HasPlainRows, OwesAcks}
@@ -24,12 +26,13 @@ not_true : (b : Bool) → (b ≡ true → ⊥) → b ≡ false
 not_true true h = absurd (h refl)
 not_true false h = refl
 
-module _ (contacts : ℕ) (groups : List Known) (levels : LevelMap) (kept : Kept) (rows : Rows) (waiting : List ℕ) (sleepers : SleeperLists) (owed : List (List ℕ)) (ready : Ready)
-    (s : AreSound contacts groups levels kept rows waiting sleepers owed ready) where
+module _ (contacts : ℕ) (groups : List Known) (levels : LevelMap) (kept : Kept) (rows : Rows) (waiting : List ℕ) (sleepers : SleeperLists) (owed : List (List ℕ)) (ready : Ready) (early : List Mark)
+    (s : AreSound contacts groups levels kept rows waiting sleepers owed ready early) where
   module _ (rows' : Rows) (owed' : List (List ℕ)) (ready' : Ready) (c : ℕ) (id : Id) (n : ℕ) (change : Row → Row) (row : Row) (l : Line) (place : IsPlace (held_in kept.lines) id n)
       (changed : rows' ≡ change_row rows c id change) (row_is : row ≡ change (row_at rows c id))
       (owed_is : (x m : ℕ) → has_for owed' x m ≡ cond (nat_eq x c && nat_eq m n) row.owed (has_for owed x m))
-      (here_is : slice_get kept.lines n ≡ Some l) (goes : Bool) (goes_is : goes ≡ may_go levels c l row) (placed : IsPlaced ready ready' c n goes row) where
+      (here_is : slice_get kept.lines n ≡ Some l) (goes : Bool) (goes_is : goes ≡ may_go levels c l row) (placed : IsPlaced ready ready' c n goes row)
+      (early' : List Mark) (fallen : (x : ℕ) → mark_of early' x ≡ cond (nat_eq x c) (lowered n (mark_of early x)) (mark_of early x)) where
     abbrev held : List Held
     held = held_in kept.lines
 
@@ -91,7 +94,27 @@ module _ (contacts : ℕ) (groups : List Known) (levels : LevelMap) (kept : Kept
         itself : (a b : ℕ) → (nat_eq a a && nat_eq b b) ≡ true
         itself a b = λ i. eq-eqb a a refl i && eq-eqb b b refl i
 
-    pub sound_row : AreSound contacts groups levels kept rows' waiting sleepers owed' ready'
+    -- behind the row that changed nothing is said, and before it the rows are the same
+    late : AreLate kept rows' early'
+    late x m y at low = by (nat_eq x c) (nat_eq m n) refl refl where
+      by : (a b : Bool) → nat_eq x c ≡ a → nat_eq m n ≡ b → goes_early (mark_of early' x).latency (mark_of early' x).now (row_at rows' x y.id) ≡ false
+      by true true ec en =
+          let is : mark_of early' x ≡ lowered n (mark_of early x) = fallen x ∙ ap (λ t. cond t (lowered n (mark_of early x)) (mark_of early x)) ec in
+          let same : m ≡ n = eqb-true m n en in
+          let below : m < (lowered n (mark_of early x)).from = subst (λ (k : Mark). m < k.from) is low in
+          absurd (omega (arith, below, same))
+      by true false ec en =
+          let is : mark_of early' x ≡ lowered n (mark_of early x) = fallen x ∙ ap (λ t. cond t (lowered n (mark_of early x)) (mark_of early x)) ec in
+          let below : m < (lowered n (mark_of early x)).from = subst (λ (k : Mark). m < k.from) is low in
+          let row_same = left x m (held_of y) (get_held kept.lines m y at) ((λ i. ec i && en i)) in
+          (λ i. goes_early (is i).latency (is i).now (row_same i)) ∙ s.late x m y at (omega (arith, below))
+      by false b ec en =
+          let is : mark_of early' x ≡ mark_of early x = fallen x ∙ ap (λ t. cond t (lowered n (mark_of early x)) (mark_of early x)) ec in
+          let below : m < (mark_of early x).from = subst (λ (k : Mark). m < k.from) is low in
+          let row_same = left x m (held_of y) (get_held kept.lines m y at) ((λ i. ec i && en i)) in
+          (λ i. goes_early (is i).latency (is i).now (row_same i)) ∙ s.late x m y at below
+
+    pub sound_row : AreSound contacts groups levels kept rows' waiting sleepers owed' ready' early'
     sound_row = record {
       lines = s.lines;
       levels_fit = s.levels_fit;
@@ -101,4 +124,5 @@ module _ (contacts : ℕ) (groups : List Known) (levels : LevelMap) (kept : Kept
       owes = owes;
       stand = stand;
       within = within_on kept ready ready' s.within placed.cursors;
+      late = late;
     }

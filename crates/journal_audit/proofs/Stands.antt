@@ -1,13 +1,16 @@
 -- Where the messages stand that may go to contacts, and what changes it.
 use Rattle.std.proofs.Common.{◌≡◌, ℕ, zero, suc, ◌+◌, ◌<◌, ◌≤◌, Bool, true, false, cond, not, ◌&&◌, ◌||◌, nat_eq, List, [], ◌∷◌, ◌++◌, length, map, drop, None, Some, refl, sym, ◌∙◌, ap, subst, get_or, inl, inr, arith, eq-eqb, eqb-true}
 use Rattle.std.specs.List.{AllByRecursion, slice_get}
-use Rattle.std.proofs.lemmas.Bool.{and_parts, false≢true, or_cases, or_left, or_parts, or_right}
+use Rattle.std.proofs.lemmas.Bool.{and_parts, cases_lt, false≢true, or_cases, or_left, or_parts, or_right}
 use Rattle.std.proofs.lemmas.Option.{slice_get-get_or, slice_get_within}
 use Rattle.std.proofs.lemmas.List.{length-append}
 use Rattle.sync_rules.specs.Consistency.{ids_of_held}
 use Rattle.sync_rules.specs.Facts.{Id, LevelMap, Row, Rows, is_level_shared, level_at, row_at}
 use Rattle.sync_rules.specs.Lists.{has_repeat, is_among, same_id}
-use Rattle.sync_rules.specs.Sessions.{is_author}
+use Rattle.sync_rules.specs.Sessions.{is_author, is_sooner}
+use Rattle.sync_rules.proofs.SoonerLaws.{stays_not_sooner}
+use Rattle.journal_audit.specs.declared.early.Mark.{Mark}
+use Rattle.journal_audit.specs.Early.{AreLate, goes_early, mark_of}
 use Rattle.sync_rules.proofs.Elements.{same_id-is}
 use Rattle.journal_audit.specs.declared.clocks.Clocks.{Clocks}
 use Rattle.journal_audit.specs.declared.facts.PlainFacts.{PlainFacts}
@@ -245,9 +248,69 @@ becomes_ready p new ready' s is stand within =
         owes = s.owes;
         stand = stand;
         within = within;
+        late = s.late;
       };
       knows = λ clients knows. knows;
     })
+
+-- a contact's mark went on: no message before it goes before its time
+pub becomes_early : (p new : PlainFacts) (early' : List Mark) → IsPlainSound p → new ≡ record p { early = early' } → AreLate p.messages p.rows early' → BecomesFacts p new (facts_of p)
+becomes_early p new early' s is late =
+    subst (λ (q : PlainFacts). BecomesFacts p q (facts_of p)) (sym is)
+    (record {
+      facts = refl;
+      sound = record {
+        lines = s.lines;
+        levels_fit = s.levels_fit;
+        grouped = s.grouped;
+        rows_fit = s.rows_fit;
+        waits = s.waits;
+        owes = s.owes;
+        stand = s.stand;
+        within = s.within;
+        late = late;
+      };
+      knows = λ clients knows. knows;
+    })
+
+pub late_still : (latency longer now later : ℕ) (r : Row) → latency ≤ longer → now ≤ later → goes_early latency now r ≡ false → goes_early longer later r ≡ false
+late_still latency longer now later r l n off =
+    by r.seen r.asked (is_sooner latency now r) (is_sooner longer later r) (λ e. stays_not_sooner latency longer now later r l n e) off
+  where
+    by : (seen asked was will : Bool) → (was ≡ false → will ≡ false) → (not seen && (not asked && was)) ≡ false → (not seen && (not asked && will)) ≡ false
+    by true asked was will up e = refl
+    by false true was will up e = refl
+    by false false was will up e = up e
+
+pub passed : (p : PlainFacts) (early' : List Mark) (contact latency now start from : ℕ) → IsPlainSound p → start ≤ (mark_of p.early contact).from
+    → ((n : ℕ) → n < start → (mark_of p.early contact).latency ≤ latency) → ((n : ℕ) → n < start → (mark_of p.early contact).now ≤ now)
+    → ((n : ℕ) (l : Line) → start ≤ n → n < from → slice_get p.messages.lines n ≡ Some l → goes_early latency now (row_at p.rows contact l.id) ≡ false)
+    → ((c : ℕ) → mark_of early' c ≡ cond (nat_eq c contact) (record { from = from; latency = latency; now = now }) (mark_of p.early c))
+    → AreLate p.messages p.rows early'
+passed p early' contact latency now start from s begins quick early rest set c n l at low = by (nat_eq c contact) refl where
+  mark : Mark
+  mark = record { from = from; latency = latency; now = now }
+
+  mine : c ≡ contact → n < from → goes_early latency now (row_at p.rows c l.id) ≡ false
+  mine same below =
+      elim (cases_lt n start) [
+        | inl before ↦
+            let under : n < (mark_of p.early contact).from = omega (arith, before, begins) in
+            let was : goes_early (mark_of p.early contact).latency (mark_of p.early contact).now (row_at p.rows c l.id) ≡ false =
+            subst (λ k. goes_early (mark_of p.early k).latency (mark_of p.early k).now (row_at p.rows c l.id) ≡ false) same
+            (s.late c n l at (subst (λ k. n < (mark_of p.early k).from) (sym same) under)) in
+            late_still (mark_of p.early contact).latency latency (mark_of p.early contact).now now (row_at p.rows c l.id) (quick n before) (early n before) was
+        | inr behind ↦ subst (λ k. goes_early latency now (row_at p.rows k l.id) ≡ false) (sym same) (rest n l behind below at)
+      ]
+
+  by : (b : Bool) → nat_eq c contact ≡ b → goes_early (mark_of early' c).latency (mark_of early' c).now (row_at p.rows c l.id) ≡ false
+  by true e =
+      let is : mark_of early' c ≡ mark = set c ∙ ap (λ t. cond t mark (mark_of p.early c)) e in
+      let below : n < from = subst (λ (k : Mark). n < k.from) is low in
+      ap (λ (k : Mark). goes_early k.latency k.now (row_at p.rows c l.id)) is ∙ mine (eqb-true c contact e) below
+  by false e =
+      let is : mark_of early' c ≡ mark_of p.early c = set c ∙ ap (λ t. cond t mark (mark_of p.early c)) e in
+      ap (λ (k : Mark). goes_early k.latency k.now (row_at p.rows c l.id)) is ∙ s.late c n l at (subst (λ (k : Mark). n < k.from) is low)
 
 -- a message that was put where it belongs stands there
 pub stands_here : (p : PlainFacts) (ready' : Ready) (contact n : ℕ) (l : Line) (goes : Bool) (row : Row) → slice_get p.messages.lines n ≡ Some l → row ≡ row_at p.rows contact l.id

@@ -15,4 +15,5 @@ pub mod Rows
 pub mod Sessions
 pub mod Sleeping
 pub mod Standing
+pub mod Early
 pub mod Telling

@@ -6,7 +6,7 @@ use Rattle.sync_rules.specs.declared.entries.Mode.{Mode}
 use Rattle.sync_rules.specs.declared.entries.Entry.{Entry}
 use Rattle.sync_rules.specs.declared.entries.Entry.TheVariants as entry
 use Rattle.sync_rules.specs.Facts.{Facts, Held, Id, LevelMap, Row, is_level_shared, level_at, row_at}
-use Rattle.sync_rules.specs.Sessions.{is_author, is_ripe, is_sendable}
+use Rattle.sync_rules.specs.Sessions.{goes_sooner, is_author, is_ripe, is_sendable}
 use Rattle.sync_rules.specs.Steps.{step_open}
 use Rattle.sync_rules.specs.Views.{Seen}
 use Rattle.journal_audit.specs.declared.facts.PlainFacts.{PlainFacts}
@@ -55,6 +55,9 @@ abbrev pub is_offered : Seen → ℕ → ℕ → Held → Bool
 is_offered s contact now h =
     is_sendable s.facts s.shared contact h
     && (not (row_at s.facts.rows contact h.id).asked && nat_le (row_at s.facts.rows contact h.id).expiry now)
+
+abbrev pub is_sooner : Seen → ℕ → ℕ → ℕ → Held → Bool
+is_sooner s contact latency now h = is_sendable s.facts s.shared contact h && goes_sooner latency now (row_at s.facts.rows contact h.id)
 
 -- a line's message may be sent to a contact for which this row is kept
 abbrev pub is_line_sendable : LevelMap → ℕ → Line → Row → Bool

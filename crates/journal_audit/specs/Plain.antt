@@ -12,6 +12,8 @@ use Rattle.journal_audit.specs.declared.ready.Ready.{Ready}
 use Rattle.journal_audit.specs.Lines.{AreLines, Kept, delivered_in, held_in, ids_flagged, invalid_in, judged_in}
 use Rattle.journal_audit.specs.Numbers.{has_for}
 use Rattle.journal_audit.specs.Sleeping.{SleeperLists, WaitsOrRests}
+use Rattle.journal_audit.specs.declared.early.Mark.{Mark}
+use Rattle.journal_audit.specs.Early.{AreLate}
 use Rattle.journal_audit.specs.Standing.{AreStanding, AreWithin, shares}
 
 -- ---- the facts
@@ -68,7 +70,7 @@ abbrev pub OwesAcks : List Held → Rows → List (List ℕ) → Type 0
 OwesAcks held rows owed =
     (contact n : ℕ) (h : Held) → contact < 256 → slice_get held n ≡ Some h → has_for owed contact n ≡ false → (row_at rows contact h.id).owed ≡ false
 
-pub record AreSound (contacts : ℕ) (groups : List Known) (levels : LevelMap) (kept : Kept) (rows : Rows) (waiting : List ℕ) (sleepers : SleeperLists) (owed : List (List ℕ)) (ready : Ready) : Type 0 where
+pub record AreSound (contacts : ℕ) (groups : List Known) (levels : LevelMap) (kept : Kept) (rows : Rows) (waiting : List ℕ) (sleepers : SleeperLists) (owed : List (List ℕ)) (ready : Ready) (early : List Mark) : Type 0 where
   pub lines : AreLines kept
   pub levels_fit : HasPlainLevels contacts groups levels
   pub grouped : AreGrouped groups (held_in kept.lines)
@@ -77,6 +79,7 @@ pub record AreSound (contacts : ℕ) (groups : List Known) (levels : LevelMap) (
   pub owes : OwesAcks (held_in kept.lines) rows owed
   pub stand : AreStanding levels kept rows ready
   pub within : AreWithin kept ready
+  pub late : AreLate kept rows early
 
 abbrev pub IsPlainSound : PlainFacts → Type 0
-IsPlainSound p = AreSound p.contacts p.groups p.levels p.messages p.rows p.waiting p.sleepers p.owed p.ready
+IsPlainSound p = AreSound p.contacts p.groups p.levels p.messages p.rows p.waiting p.sleepers p.owed p.ready p.early

@@ -1,13 +1,14 @@
 //! Which held messages are owed, sent and offered to a contact.
-ghost use Rattle.std.specs.Prelude.{◌≡◌, ◌&&◌, ℕ, not, nat_le, IfOk, slice_get, take};
+ghost use Rattle.std.specs.Prelude.{◌≡◌, ◌&&◌, ℕ, drop, not, nat_le, IfOk, slice_get, take};
 ghost use Rattle.std.specs.List.Sorted.{IsStrictlySortedBy};
 ghost use Rattle.std.specs.Option.{option_copied};
 ghost use Rattle.std.specs.Ordering.{nat_cmp};
 ghost use Rattle.sync_rules.specs.Facts.{is_level_shared, level_at};
-ghost use Rattle.sync_rules.specs.Sessions.{first_id, ids_where, is_author, is_ripe};
+ghost use Rattle.sync_rules.specs.Sessions.{first_id, goes_sooner, ids_where, is_author, is_ripe};
 ghost use Rattle.sync_ids.specs.declared.lists.TheConstants.{MAX_IDS};
 ghost use Rattle.journal_audit.specs.Lines.{held_in};
 ghost use Rattle.journal_audit.specs.Looks.{ids_at, is_line_sendable, is_offered, is_owed, is_sent};
+ghost use Rattle.journal_audit.specs.Looks.{is_sooner};
 ghost use Rattle.journal_audit.specs.Looks.{picked, seen_of};
 ghost use Rattle.journal_audit.specs.Numbers.{has, has_for};
 ghost use Rattle.journal_audit.specs.Plain.{IsPlainSound};
@@ -143,6 +144,36 @@ fn offered_at(facts: &PlainFacts, contact: u8, now: u64, n: u32) -> Option<Messa
     }
 }
 
+// Whether a message is to go to a contact before its time.
+fn is_sooner(
+    levels: &Levels,
+    contact: u8,
+    latency: u32,
+    now: u64,
+    line: &Line,
+    row: ContactRow,
+) -> bool
+    ensures { result ≡ (is_line_sendable levels.now contact line.now row && goes_sooner latency now
+        row) }
+{
+    is_sendable(levels, contact, line, row) && row.goes_sooner(latency, now)
+}
+
+// The id of the message of this number, where it is to go to the contact before its time.
+fn sooner_at(facts: &PlainFacts, contact: u8, latency: u32, now: u64, n: u32) -> Option<MessageId>
+    requires { IsPlainSound facts.now }
+    ensures { result ≡ picked (is_sooner (seen_of facts.now) contact latency now)
+        (slice_get (held_in facts.now.messages.lines) n) }
+{
+    let line = facts.messages.get(n)?;
+    let row = facts.rows.row(contact, &line.id);
+    if is_sooner(&facts.levels, contact, latency, now, line, row) {
+        Some(line.id)
+    } else {
+        None
+    }
+}
+
 // ---- all of them
 
 /// The ids of the messages of these numbers that wait for an acknowledgement to the contact, at
@@ -264,6 +295,54 @@ pub(crate) fn offered_of_all(
             break;
         }
         if let Some(id) = offered_at(facts, contact, now, n) {
+            ids.push(id)?;
+        }
+    }
+    ids.truncate(MAX_IDS);
+    Ok(ids)
+}
+
+/// The first message from a number on that is to be sent to the contact before its time.
+pub(crate) fn first_sooner(
+    facts: &PlainFacts,
+    contact: u8,
+    latency: u32,
+    now: u64,
+    from: u32,
+) -> Option<MessageId>
+    requires { IsPlainSound facts.now }
+    ensures { result ≡ first_id (ids_where (is_sooner (seen_of facts.now) contact latency now)
+        (drop from (held_in facts.now.messages.lines))) }
+{
+    for n in from..facts.messages.len() {
+        if let Some(id) = sooner_at(facts, contact, latency, now, n) {
+            return Some(id);
+        }
+    }
+    None
+}
+
+/// The ids of the messages from a number on that are to be offered to the contact before their time,
+/// at most the first MAX_IDS of them.
+pub(crate) fn sooner_ids(
+    alloc: Global,
+    facts: &PlainFacts,
+    contact: u8,
+    latency: u32,
+    now: u64,
+    from: u32,
+) -> Result<Vec<MessageId>, AllocError>
+    requires { IsPlainSound facts.now }
+    ensures { IfOk result (λ ids. ids.items ≡ take MAX_IDS (ids_where
+        (is_sooner (seen_of facts.now) contact latency now)
+        (drop from (held_in facts.now.messages.lines)))) }
+{
+    let mut ids = Vec::new(alloc);
+    for n in from..facts.messages.len() {
+        if ids.len() >= MAX_IDS {
+            break;
+        }
+        if let Some(id) = sooner_at(facts, contact, latency, now, n) {
             ids.push(id)?;
         }
     }

@@ -4,6 +4,7 @@ ghost use Rattle.sync_rules.specs.Clients.{Meaning};
 ghost use Rattle.sync_rules.specs.Facts.{nothing};
 ghost use Rattle.journal_audit.specs.Plain.{IsPlainSound, KnowsMeanings, facts_of};
 
+use crate::early::Early;
 use crate::groups::Groups;
 use crate::hints::Hints;
 use crate::levels::Levels;
@@ -48,6 +49,8 @@ pub(crate) struct PlainFacts {
     pub(crate) owed: ByContact,
     /// For each contact where the messages stand that may go to it.
     pub(crate) ready: Ready,
+    /// For each contact how far no message goes before its time.
+    pub(crate) early: Early,
 }
 
 impl PlainFacts {
@@ -71,6 +74,7 @@ impl PlainFacts {
             hints: Hints::new(alloc),
             owed: ByContact::new(alloc)?,
             ready: Ready::new(alloc)?,
+            early: Early::new(alloc)?,
         })
     }
 }

@@ -7,6 +7,7 @@ mod bringing;
 mod clocks;
 mod cursors;
 mod due;
+mod early;
 mod facts;
 mod fault;
 mod files;

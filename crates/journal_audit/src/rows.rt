@@ -3,6 +3,8 @@ ghost use Rattle.std.specs.Prelude.{◌≡◌, ◌≤◌, IfOk, OnOk};
 ghost use Rattle.std.specs.FinMap as fin_map;
 ghost use Rattle.sync_rules.specs.Facts.{change_row, expiry_after, is_no_row, no_row, one_more_try};
 ghost use Rattle.sync_rules.specs.Facts.{put_row, row_at, row_offered, row_tried, wait_for};
+ghost use Rattle.sync_rules.specs.Sessions.{goes_sooner};
+ghost use Rattle.journal_audit.specs.Early.{goes_early};
 ghost use Rattle.journal_audit.specs.Rows.{changed_by};
 
 use std::alloc::{AllocError, Global};
@@ -122,6 +124,21 @@ impl ContactRow {
         self.tries = one_more_try(self.tries);
         self.expiry = expiry_after(now, latency, self.tries);
         self
+    }
+
+    /// Whether a try now, on a session of this latency, would set an expiry less than the one that
+    /// stands, of a message that was not asked for.
+    pub(crate) fn goes_sooner(self, latency: u32, now: u64) -> bool
+        ensures { result ≡ goes_sooner latency now self }
+    {
+        !self.asked && self.offered(now, latency).expiry < self.expiry
+    }
+
+    /// The same of one that the contact has not seen.
+    pub(crate) fn goes_early(self, latency: u32, now: u64) -> bool
+        ensures { result ≡ goes_early latency now self }
+    {
+        !self.seen && self.goes_sooner(latency, now)
     }
 
     // What is kept of the row takes its place.

@@ -256,8 +256,8 @@ impl PlainFacts {
         }
     }
 
-    // The latency of a session in milliseconds.
-    fn latency_of(&self, session: u32) -> u32
+    /// The latency of a session in milliseconds.
+    pub(crate) fn latency_of(&self, session: u32) -> u32
         ensures { result ≡ latency_of (facts_of self.now).sessions session }
     {
         match self.sessions.find(session) {
@@ -286,6 +286,7 @@ impl PlainFacts {
         self.owed.mark(contact, n, kept.owed)?;
         let goes = may_go(&self.levels, contact, self.messages.line(n), kept);
         self.ready.replace(contact, n, was, goes, kept)?;
+        self.early.fall_back(contact, n);
         Ok(())
     }
 

@@ -3,7 +3,8 @@ ghost use Rattle.std.specs.Prelude.{◌≡◌};
 ghost use Rattle.journal_audit.specs.Plain.{IsPlainSound};
 
 use crate::due::{
-    first_sent, first_sent_of_all, numbers_for, offered_ids, offered_of_all, owed_ids,
+    first_sent, first_sent_of_all, first_sooner, numbers_for, offered_ids, offered_of_all,
+    owed_ids, sooner_ids,
 };
 use crate::facts::PlainFacts;
 use batch_tests::JournalView;
@@ -99,6 +100,22 @@ impl<'a> View for FactsView<'a> {
         }
         let numbers = self.facts.ready.awake.of(contact);
         offered_ids(alloc, self.facts, contact, now, numbers)
+    }
+
+    fn next_sooner(&self, contact: u8, latency: u32, now: u64) -> Option<MessageId> {
+        let from = self.facts.early.start(contact, latency, now);
+        first_sooner(self.facts, contact, latency, now, from)
+    }
+
+    fn sooner_offers(
+        &self,
+        alloc: Global,
+        contact: u8,
+        latency: u32,
+        now: u64,
+    ) -> Result<Vec<MessageId>, AllocError> {
+        let from = self.facts.early.start(contact, latency, now);
+        sooner_ids(alloc, self.facts, contact, latency, now, from)
     }
 }
 

@@ -8,11 +8,12 @@ use Rattle.sync_rules.specs.Lists.{is_among}
 use Rattle.sync_rules.specs.Facts.{Held, Id, Row, row_at, level_at, is_level_shared}
 use Rattle.sync_ids.specs.declared.lists.TheConstants.{MAX_IDS}
 use Rattle.sync_rules.specs.Sessions.{is_author, is_sendable, is_ripe, owed_to, send_of, offers_of}
+use Rattle.sync_rules.specs.Sessions.{goes_sooner, sooner_of, sooner_offers_of}
 use Rattle.sync_rules.specs.Views.{is_seen_in}
 use Rattle.retry_table.specs.Table as retry
 use Rattle.retry_table.specs.Table.{tried_of}
 use Rattle.retry_table.specs.Due.{numbers_where, may_be_sent, is_sent_at, is_offered_at, owed_in}
-use Rattle.retry_table.specs.Due.{message_in, offers_in}
+use Rattle.retry_table.specs.Due.{is_sooner_at, message_in, offers_in, sooner_in, sooner_offers_in}
 use Rattle.journal_state.specs.Parts.{Parts, answers_of, facts_of, shared_among}
 use Rattle.journal_state.specs.Whole.{IsState, id_at}
 use Rattle.journal_state.proofs.Rows.{row_by, row_found}
@@ -118,3 +119,30 @@ module _ (p : Parts) (s : IsState p) where
   offers_below contact now =
       all_taken (λ n. nat_lt n (length p.held)) MAX_IDS (numbers_where (is_offered_at now) 0 (retry.rows_of p.retry contact))
       (all_below (is_offered_at now) refl (length p.held) 0 (retry.rows_of p.retry contact) (bounded contact))
+
+  -- ---- what goes before its time
+
+  pub sooner_found : (contact latency now : ℕ) → contact < 256
+      → option_map (id_at p.held) (sooner_in latency now (retry.rows_of p.retry contact)) ≡ sooner_of (facts_of p) (shared_among p.held (answers_of p.nodes p.shares)) contact latency now
+  sooner_found contact latency now known =
+      first_listed (is_sooner_at latency now)
+      (λ h. is_sendable (facts_of p) (shared_among p.held (answers_of p.nodes p.shares)) contact h && goes_sooner latency now (row_at (facts_of p).rows contact h.id))
+      (id_at p.held) refl 0 (retry.rows_of p.retry contact) p.held
+      (λ n h at. ((λ i. sendable_there contact n h known at i && goes_sooner latency now (row_there contact n h at i)), id_named n h at)) (free contact)
+
+  pub sooner_below : (contact latency now n : ℕ) → sooner_in latency now (retry.rows_of p.retry contact) ≡ Some n → nat_lt n (length p.held) ≡ true
+  sooner_below contact latency now n e = found_below (is_sooner_at latency now) refl (length p.held) 0 (retry.rows_of p.retry contact) (bounded contact) n e
+
+  pub sooner_offers_found : (contact latency now : ℕ) → contact < 256
+      → map (id_at p.held) (sooner_offers_in latency now (retry.rows_of p.retry contact)) ≡ sooner_offers_of (facts_of p) (shared_among p.held (answers_of p.nodes p.shares)) contact latency now
+  sooner_offers_found contact latency now known =
+      sym (take-map (id_at p.held) MAX_IDS (numbers_where (is_sooner_at latency now) 0 (retry.rows_of p.retry contact)))
+      ∙ ap (take MAX_IDS) (listed (is_sooner_at latency now)
+      (λ h. is_sendable (facts_of p) (shared_among p.held (answers_of p.nodes p.shares)) contact h && goes_sooner latency now (row_at (facts_of p).rows contact h.id))
+      (id_at p.held) refl 0 (retry.rows_of p.retry contact) p.held
+      (λ n h at. ((λ i. sendable_there contact n h known at i && goes_sooner latency now (row_there contact n h at i)), id_named n h at)) (free contact))
+
+  pub sooner_offers_below : (contact latency now : ℕ) → list_all (λ n. nat_lt n (length p.held)) (sooner_offers_in latency now (retry.rows_of p.retry contact)) ≡ true
+  sooner_offers_below contact latency now =
+      all_taken (λ n. nat_lt n (length p.held)) MAX_IDS (numbers_where (is_sooner_at latency now) 0 (retry.rows_of p.retry contact))
+      (all_below (is_sooner_at latency now) refl (length p.held) 0 (retry.rows_of p.retry contact) (bounded contact))

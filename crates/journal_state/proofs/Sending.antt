@@ -1,5 +1,5 @@
 -- What is due is of held messages, each named once.
-use Rattle.std.proofs.Common.{◌≡◌, ℕ, zero, suc, Bool, true, false, cond, ◌||◌, List, [], ◌∷◌, map, take, Option, None, Some, is_some, refl, sym, ◌∙◌, ap, subst}
+use Rattle.std.proofs.Common.{◌≡◌, ℕ, zero, suc, Bool, true, false, cond, ◌||◌, List, [], ◌∷◌, map, take, Option, None, Some, is_some, refl, sym, ◌∙◌, ap, subst, inl, inr}
 use Rattle.std.specs.Option.{option_or}
 use Rattle.std.specs.List.{list_all}
 use Rattle.std.proofs.lemmas.Bool.{and_parts, and_from, or_parts}
@@ -13,6 +13,8 @@ use Rattle.sync_rules.specs.Facts.{Facts, Held, Id, held_at, is_held}
 use Rattle.sync_ids.specs.declared.lists.TheConstants.{MAX_IDS}
 use Rattle.sync_rules.specs.Sessions.{acks_due, due_by, first_id, ids_where, offers_due, offers_of}
 use Rattle.sync_rules.specs.Sessions.{owed_to, requests_due, send_due, send_of, wanted_of}
+use Rattle.sync_rules.specs.Sessions.{due_on_any_way, sooner_due, sooner_of, sooner_offers_of}
+use Rattle.sync_rules.proofs.Outputs.{option_or-cases}
 use Rattle.journal_state.specs.Taking.{CanSend}
 use Rattle.sync_rules.proofs.Elements.{same_id_itself, same_id_swap}
 use Rattle.journal_state.specs.Sound.{AreApart}
@@ -150,11 +152,27 @@ module _ (f : Facts) (what : Out) where
   offers_can mode_kind.Interactive [] s e = absurd (let none : None ≡ Some what = e in cc)
   offers_can mode_kind.Interactive (id ∷ ids) s e = let same : out.Offers (id ∷ ids) ≡ what = cc in subst (CanSend f) same (s.held_each, s.once)
 
+  sooner_can : (mode : Mode) (first : Option Id) (ids : List Id) → ((id : Id) → first ≡ Some id → is_held f.held id ≡ true) → IsSendable f.held ids
+      → sooner_due mode first ids ≡ Some what → CanSend f what
+  sooner_can mode_kind.Batch None ids one s e = absurd (let none : None ≡ Some what = e in cc)
+  sooner_can mode_kind.Batch (Some id) ids one s e = let same : out.Send id ≡ what = cc in subst (CanSend f) same (one id refl)
+  sooner_can mode_kind.Interactive first ids one s e = offers_can mode_kind.Interactive ids s e
+
 -- what is due can be sent
-pub due_can : (f : Facts) (shared : List Id) (x : Session) (now : ℕ) (what : Out) → AreApart (map (λ (h : Held). h.id) f.held) → due_by f shared x now ≡ Some what → CanSend f what
-due_can f shared x now what apart e =
+any_way_can : (f : Facts) (shared : List Id) (x : Session) (now : ℕ) (what : Out) → AreApart (map (λ (h : Held). h.id) f.held) → due_on_any_way f shared x now ≡ Some what → CanSend f what
+any_way_can f shared x now what apart e =
     acks_can f what (owed_to f x.contact) _ (sendable f.held _ MAX_IDS apart)
     (λ e. requests_can f what x.mode (wanted_of f x.contact) _
     (λ e. send_can f what (send_of f shared x.contact x.mode now) _
     (λ id q. first_held f.held _ id (held_where f.held _ f.held (all_held f.held)) q)
     (λ e. offers_can f what x.mode (offers_of f shared x.contact now) (sendable f.held _ MAX_IDS apart) e) e) e) e
+
+pub due_can : (f : Facts) (shared : List Id) (x : Session) (now : ℕ) (what : Out) → AreApart (map (λ (h : Held). h.id) f.held) → due_by f shared x now ≡ Some what → CanSend f what
+due_can f shared x now what apart e =
+    elim (option_or-cases (due_on_any_way f shared x now)
+    (sooner_due x.mode (sooner_of f shared x.contact x.latency now) (sooner_offers_of f shared x.contact x.latency now)) what e) [
+      | inl a ↦ any_way_can f shared x now what apart a
+      | inr b ↦
+          sooner_can f what x.mode (sooner_of f shared x.contact x.latency now) (sooner_offers_of f shared x.contact x.latency now)
+          (λ id q. first_held f.held _ id (held_where f.held _ f.held (all_held f.held)) q) (sendable f.held _ MAX_IDS apart) b
+    ]

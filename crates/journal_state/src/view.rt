@@ -56,6 +56,22 @@ impl View for State {
         let numbers = self.retry.due_offers(contact, now)?;
         self.ids(alloc, numbers.as_slice())
     }
+
+    fn next_sooner(&self, contact: u8, latency: u32, now: u64) -> Option<MessageId> {
+        let number = self.retry.sooner_message(contact, latency, now)?;
+        Some(self.id_at(number))
+    }
+
+    fn sooner_offers(
+        &self,
+        alloc: Global,
+        contact: u8,
+        latency: u32,
+        now: u64,
+    ) -> Result<Vec<MessageId>, AllocError> {
+        let numbers = self.retry.sooner_offers(contact, latency, now)?;
+        self.ids(alloc, numbers.as_slice())
+    }
 }
 
 impl State {

@@ -9,8 +9,8 @@ use Rattle.sync_rules.specs.declared.entries.Mode.{Mode}
 use Rattle.plain_rules.specs.declared.lines.HeldLine.{HeldLine}
 use Rattle.sync_rules.specs.Lists.{same_id}
 use Rattle.sync_rules.specs.Facts.{Facts, Held, Id, after, after_all, after_batches, nothing, facts, held_at, contact_of, row_at, authored, arrived, kept_as}
-use Rattle.sync_rules.specs.Sessions.{ids_where, first_id, owed_to, offers_of, send_of}
-use Rattle.plain_rules.specs.Lines.{line_of, lines_of, line_by, lines_in, lines_among, line_ids, line_place, is_line_owed, is_line_offered, is_line_sent}
+use Rattle.sync_rules.specs.Sessions.{ids_where, first_id, owed_to, offers_of, send_of, sooner_of, sooner_offers_of}
+use Rattle.plain_rules.specs.Lines.{line_of, lines_of, line_by, lines_in, lines_among, line_ids, line_place, is_line_owed, is_line_offered, is_line_sent, is_line_sooner}
 use Rattle.sync_rules.specs.Views.{place_of, IsPlace, IsFound, group_in, is_seen_in}
 use Rattle.sync_rules.proofs.Elements.{same_id-is}
 
@@ -124,3 +124,13 @@ pub send_is : (f : Facts) (shared : List Id) (ls : List HeldLine) (contact : ℕ
     → first_id (line_ids (is_line_sent f shared contact mode now) ls) ≡ send_of f shared contact mode now
 send_is f shared ls contact mode now lines =
     ap first_id (ap (line_ids (is_line_sent f shared contact mode now)) lines ∙ line_ids-is (is_line_sent f shared contact mode now) f.held)
+
+pub sooner_offers_is : (f : Facts) (shared : List Id) (ls : List HeldLine) (contact latency now : ℕ) → ls ≡ lines_of f.held
+    → take MAX_IDS (line_ids (is_line_sooner f shared contact latency now) ls) ≡ sooner_offers_of f shared contact latency now
+sooner_offers_is f shared ls contact latency now lines =
+    ap (take MAX_IDS) (ap (line_ids (is_line_sooner f shared contact latency now)) lines ∙ line_ids-is (is_line_sooner f shared contact latency now) f.held)
+
+pub sooner_is : (f : Facts) (shared : List Id) (ls : List HeldLine) (contact latency now : ℕ) → ls ≡ lines_of f.held
+    → first_id (line_ids (is_line_sooner f shared contact latency now) ls) ≡ sooner_of f shared contact latency now
+sooner_is f shared ls contact latency now lines =
+    ap first_id (ap (line_ids (is_line_sooner f shared contact latency now)) lines ∙ line_ids-is (is_line_sooner f shared contact latency now) f.held)

@@ -8,7 +8,7 @@ use Rattle.sync_rules.specs.declared.entries.Mode.{Mode}
 use Rattle.plain_rules.specs.declared.lines.HeldLine.{HeldLine}
 use Rattle.sync_rules.specs.Lists.{same_id, is_among}
 use Rattle.sync_rules.specs.Facts.{Facts, Held, Id, level_at, is_level_shared, row_at}
-use Rattle.sync_rules.specs.Sessions.{is_author, is_ripe}
+use Rattle.sync_rules.specs.Sessions.{goes_sooner, is_author, is_ripe}
 
 -- what is kept of a held message
 abbrev pub line_of : Held → HeldLine
@@ -58,3 +58,6 @@ is_line_sent f shared contact mode now l = is_line_sendable f shared contact l &
 abbrev pub is_line_offered : Facts → List Id → ℕ → ℕ → HeldLine → Bool
 is_line_offered f shared contact now l =
     is_line_sendable f shared contact l && (not (row_at f.rows contact l.id).asked && nat_le (row_at f.rows contact l.id).expiry now)
+
+abbrev pub is_line_sooner : Facts → List Id → ℕ → ℕ → ℕ → HeldLine → Bool
+is_line_sooner f shared contact latency now l = is_line_sendable f shared contact l && goes_sooner latency now (row_at f.rows contact l.id)

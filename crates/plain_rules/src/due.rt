@@ -1,12 +1,12 @@
 //! Which held messages are owed, sent and offered to a contact.
 ghost use Rattle.plain_rules.specs.Lines.{line_ids, is_line_offered, is_line_owed};
-ghost use Rattle.plain_rules.specs.Lines.{is_line_sendable, is_line_sent};
+ghost use Rattle.plain_rules.specs.Lines.{is_line_sendable, is_line_sent, is_line_sooner};
 ghost use Rattle.std.specs.Prelude.{◌≡◌, IfOk};
 ghost use Rattle.sync_rules.specs.Facts.{facts, is_level_shared, level_at};
-ghost use Rattle.sync_rules.specs.Sessions.{first_id, is_ripe};
+ghost use Rattle.sync_rules.specs.Sessions.{first_id, goes_sooner, is_ripe};
 
 use crate::lines::HeldLine;
-use crate::rows::{PlainRow, is_in, row_of};
+use crate::rows::{PlainRow, is_in, offered, row_of};
 use std::alloc::{AllocError, Global};
 use sync_ids::{GroupId, MessageId};
 use sync_rules::lookups::is_delivered_in;
@@ -66,6 +66,26 @@ fn is_offered_line(
     is_sendable_line(j, shared, contact, line) && !row.asked && row.expiry <= now
 }
 
+fn goes_sooner(row: PlainRow, latency: u32, now: u64) -> bool
+    ensures { result ≡ goes_sooner latency now row }
+{
+    !row.asked && offered(row, now, latency).expiry < row.expiry
+}
+
+fn is_sooner_line(
+    j: &[Batch],
+    shared: &[MessageId],
+    contact: u8,
+    latency: u32,
+    now: u64,
+    line: &HeldLine,
+) -> bool
+    ensures { result ≡ is_line_sooner (facts j.now) shared.now contact latency now line.now }
+{
+    is_sendable_line(j, shared, contact, line)
+        && goes_sooner(row_of(j, contact, &line.id), latency, now)
+}
+
 pub(crate) fn owed_ids(
     alloc: Global,
     j: &[Batch],
@@ -118,6 +138,47 @@ pub(crate) fn first_sent(
 {
     for line in lines {
         if is_sent_line(j, shared, contact, mode, now, line) {
+            return Some(line.id);
+        }
+    }
+    None
+}
+
+pub(crate) fn sooner_ids(
+    alloc: Global,
+    j: &[Batch],
+    shared: &[MessageId],
+    lines: &[HeldLine],
+    contact: u8,
+    latency: u32,
+    now: u64,
+) -> Result<Vec<MessageId>, AllocError>
+    ensures { IfOk result
+        (λ ids. ids.items ≡ line_ids (is_line_sooner (facts j.now) shared.now contact latency now)
+        lines.now) }
+{
+    let mut ids = Vec::new(alloc);
+    for line in lines {
+        if is_sooner_line(j, shared, contact, latency, now, line) {
+            ids.push(line.id)?;
+        }
+    }
+    Ok(ids)
+}
+
+pub(crate) fn first_sooner(
+    j: &[Batch],
+    shared: &[MessageId],
+    lines: &[HeldLine],
+    contact: u8,
+    latency: u32,
+    now: u64,
+) -> Option<MessageId>
+    ensures { result ≡ first_id (line_ids (is_line_sooner (facts j.now) shared.now contact latency
+        now) lines.now) }
+{
+    for line in lines {
+        if is_sooner_line(j, shared, contact, latency, now, line) {
             return Some(line.id);
         }
     }

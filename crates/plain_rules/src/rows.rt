@@ -60,7 +60,7 @@ fn expiry_of(now: u64, latency: u32, tries: u8) -> u64
     now.saturating_add(wait)
 }
 
-fn offered(row: PlainRow, now: u64, latency: u32) -> PlainRow
+pub(crate) fn offered(row: PlainRow, now: u64, latency: u32) -> PlainRow
     ensures { result ≡ row_offered now latency row }
 {
     let tries = if row.tries < MAX_TRIES {

@@ -7,7 +7,7 @@ ghost use Rattle.sync_rules.specs.Sessions.{shared_ids};
 ghost use Rattle.sync_rules.specs.Views.{KnowsShown};
 ghost use Rattle.plain_rules.specs.declared.view.PlainFault.TheVariants as fault;
 
-use crate::due::{first_sent, offered_ids, owed_ids};
+use crate::due::{first_sent, first_sooner, offered_ids, owed_ids, sooner_ids};
 use crate::levels::knows_levels;
 use crate::lines::{HeldLine, held_lines, place_in};
 use crate::rows::row_of;
@@ -186,6 +186,37 @@ impl<'a> View for PlainView<'a> {
             self.shared.as_slice(),
             self.held.as_slice(),
             contact,
+            now,
+        )?;
+        ids.truncate(MAX_IDS);
+        Ok(ids)
+    }
+
+    fn next_sooner(&self, contact: u8, latency: u32, now: u64) -> Option<MessageId> {
+        first_sooner(
+            self.batches,
+            self.shared.as_slice(),
+            self.held.as_slice(),
+            contact,
+            latency,
+            now,
+        )
+    }
+
+    fn sooner_offers(
+        &self,
+        alloc: Global,
+        contact: u8,
+        latency: u32,
+        now: u64,
+    ) -> Result<Vec<MessageId>, AllocError> {
+        let mut ids = sooner_ids(
+            alloc,
+            self.batches,
+            self.shared.as_slice(),
+            self.held.as_slice(),
+            contact,
+            latency,
             now,
         )?;
         ids.truncate(MAX_IDS);

@@ -52,6 +52,7 @@ lesser_not_due bound (Some m) (Some n) h k = min_above m n bound h k
 none_place : (what : Times) → time_place what no_kept ≡ None
 none_place times.ToSend = refl
 none_place times.ToOffer = refl
+none_place (times.Sooner tries) = refl
 
 -- ---- the least number of a block
 
@@ -160,6 +161,31 @@ module _ (what : Times) where
 
   pub least_none : AreLeast what [] []
   least_none = record { same = λ block. sym (least_past [] (64 * block) 64 (omega arith)); room = omega arith; small = omega arith }
+
+  -- rows whose numbers are the same
+  least-alike : (rows new : List KeptRow) (first count : ℕ) → ((n : ℕ) → time_place what (kept_in new n) ≡ time_place what (kept_in rows n)) → least_from what new first count ≡ least_from what rows first count
+  unfolding least_from
+  least-alike rows new first zero h = refl
+  least-alike rows new first (suc count) h = (λ i. lesser (h first i) (least-alike rows new (first + 1) count h i))
+
+  pub rows_alike : (rows new : List KeptRow) (tree : List (Option ℕ)) → AreLeast what rows tree → length new ≡ length rows → ((n : ℕ) → time_place what (kept_in new n) ≡ time_place what (kept_in rows n)) → AreLeast what new tree
+  rows_alike rows new tree b many h = record {
+    same = λ block. b.same block ∙ sym (least-alike rows new (64 * block) 64 h);
+    room = omega (arith, b.room, many);
+    small = b.small;
+  }
+
+  -- a queue of which so many blocks were made, and no other has rows
+  pub made_whole : (rows : List KeptRow) (tree : List (Option ℕ)) (blocks : ℕ) → ((block : ℕ) → block < blocks → place_at tree block ≡ least_from what rows (64 * block) 64)
+      → ((block : ℕ) → blocks ≤ block → place_at tree block ≡ None) → length rows ≤ 64 * blocks → length rows ≤ 64 * length tree → length tree ≤ 2 ^ 32 → AreLeast what rows tree
+  made_whole rows tree blocks made none all room small = record {
+    same = λ block. elim (cases_lt block blocks) [
+      | inl l ↦ made block l
+      | inr past ↦ none block past ∙ sym (least_past rows (64 * block) 64 (omega (arith, past, all)))
+    ];
+    room = room;
+    small = small;
+  }
 
   -- ---- what is due in a block
 

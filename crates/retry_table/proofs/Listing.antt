@@ -1,5 +1,5 @@
 -- Listing the numbers of those that pass a test, by one search after another.
-use Rattle.std.proofs.Common.{◌≡◌, ℕ, suc, ◌+◌, ◌-◌, ◌<◌, ◌≤◌, Bool, true, false, cond, List, [], ◌∷◌, ◌++◌, length, None, Some, refl, sym, ap, subst, ◌∙◌, take, drop, arith, append_assoc, length-drop}
+use Rattle.std.proofs.Common.{◌≡◌, ℕ, suc, ◌+◌, ◌-◌, ◌<◌, ◌≤◌, Bool, true, false, cond, List, [], ◌∷◌, ◌++◌, length, Option, None, Some, IfSome, refl, sym, ap, subst, ◌∙◌, take, drop, arith, append_assoc, length-drop}
 use Rattle.std.proofs.lemmas.List.{drop-drop, append-nil}
 use Rattle.std.proofs.Math.Seq.{take-nil}
 use Rattle.std.specs.List.{position_from}
@@ -40,6 +40,12 @@ module _ {X : Type 0} (p : X → Bool) where
         | true ↦ λ e same. let is : first ≡ n = cc in subst (λ k. IsNext k (x ∷ xs) n) (sym is) (next_here x xs n e)
         | false ↦ λ e found. next_later x xs first n e (next_is xs (first + 1) n found)
       ] refl h
+
+  -- what is found from a number on is within the list
+  pub within_small : (xs : List X) (from most : ℕ) (o : Option ℕ) → o ≡ position_from p from (drop from xs) → length xs ≤ most → IfSome o (λ n. n < most)
+  within_small xs from most None is few = tt
+  within_small xs from most (Some n) is few =
+      let r = next_is (drop from xs) from n (sym is) in omega (arith, r.low, r.high, length-drop from xs, few)
 
   -- where none passes, there are no numbers
   pub no_next : (xs : List X) (first : ℕ) → position_from p first xs ≡ None → numbers_where p first xs ≡ []

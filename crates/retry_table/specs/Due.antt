@@ -3,7 +3,7 @@ use Rattle.std.specs.Prelude.{ℕ, ◌+◌, Bool, not, cond, ◌&&◌, nat_le, L
 use Rattle.std.specs.List.{position_from}
 use Rattle.sync_rules.specs.declared.entries.Mode.{Mode}
 use Rattle.sync_rules.specs.Facts.{Id}
-use Rattle.sync_rules.specs.Sessions.{is_ripe}
+use Rattle.sync_rules.specs.Sessions.{goes_sooner, is_ripe}
 use Rattle.retry_table.specs.Table.{KeptRow}
 use Rattle.sync_ids.specs.declared.lists.TheConstants.{MAX_IDS}
 
@@ -24,6 +24,10 @@ is_sent_at mode now kept = may_be_sent kept && is_ripe mode now kept.row
 abbrev pub is_offered_at : ℕ → KeptRow → Bool
 is_offered_at now kept = may_be_sent kept && (not kept.row.asked && nat_le kept.row.expiry now)
 
+-- a message goes before its time: it was not asked for, and a try now would set an expiry less than the one that stands
+abbrev pub is_sooner_at : ℕ → ℕ → KeptRow → Bool
+is_sooner_at latency now kept = may_be_sent kept && goes_sooner latency now kept.row
+
 -- the numbers that wait for our acknowledgement
 abbrev pub owed_in : List KeptRow → List ℕ
 owed_in rows = take MAX_IDS (numbers_where (λ kept. kept.row.owed) 0 rows)
@@ -35,6 +39,14 @@ message_in mode now rows = position_from (is_sent_at mode now) 0 rows
 -- the numbers to be offered
 abbrev pub offers_in : ℕ → List KeptRow → List ℕ
 offers_in now rows = take MAX_IDS (numbers_where (is_offered_at now) 0 rows)
+
+-- the number of the message to be sent before its time
+abbrev pub sooner_in : ℕ → ℕ → List KeptRow → Option ℕ
+sooner_in latency now rows = position_from (is_sooner_at latency now) 0 rows
+
+-- the numbers to be offered before their time
+abbrev pub sooner_offers_in : ℕ → ℕ → List KeptRow → List ℕ
+sooner_offers_in latency now rows = take MAX_IDS (numbers_where (is_sooner_at latency now) 0 rows)
 
 -- the ids to be requested
 abbrev pub requests_in : List Id → List Id

@@ -2,7 +2,8 @@
 //! whole group for a contact costs a note; the contact's queues are brought in order later.
 ghost use Rattle.std.specs.Prelude.{◌≡◌, ◌+◌, ◌-◌, ◌^◌, ◌<◌, ◌≤◌, ◌++◌, [], ℕ, IfOk, OnOk, OnErr};
 ghost use Rattle.std.specs.Prelude.{None, Some, length, replicate, slice_index_or, slice_set};
-ghost use Rattle.retry_table.specs.Due.{message_in, offers_in, owed_in};
+ghost use Rattle.retry_table.specs.Due.{message_in, offers_in, owed_in, sooner_in};
+ghost use Rattle.retry_table.specs.Due.{sooner_offers_in};
 ghost use Rattle.std.specs.List.{AllByRecursion};
 ghost use Rattle.sync_rules.specs.declared.limits.TheConstants.{MAX_CONTACTS};
 ghost use Rattle.retry_table.specs.Contacts.{IsBlank};
@@ -174,5 +175,27 @@ impl AllRows {
         ensures { result ≡ message_in mode now (rows_at self.now contact) }
     {
         self.contacts[contact as usize].due_message(self.released.as_slice(), mode, now)
+    }
+
+    /// The number of the message to be sent before its time.
+    pub(crate) fn sooner_message(&self, contact: u8, latency: u32, now: u64) -> Option<u32>
+        ensures { result ≡ sooner_in latency now (rows_at self.now contact) }
+    {
+        let released = self.released.as_slice();
+        self.contacts[contact as usize].sooner_message(released, latency, now)
+    }
+
+    /// The numbers to be offered before their time, at most 1,536.
+    pub(crate) fn sooner_offers(
+        &self,
+        contact: u8,
+        latency: u32,
+        now: u64,
+    ) -> Result<Vec<u32>, AllocError>
+        ensures { IfOk result (λ v. v.items ≡ sooner_offers_in latency now
+            (rows_at self.now contact)) }
+    {
+        let released = self.released.as_slice();
+        self.contacts[contact as usize].sooner_offers(released, latency, now)
     }
 }

@@ -13,11 +13,13 @@ use due_tree::{DueTree, is_due, lesser};
 /// The rows of a block.
 const BLOCK: usize = 64;
 
-/// What a time is waited for: to send a message in batch mode, or to offer it.
+/// What a time is waited for: to send a message in batch mode, or to offer it; or to send or offer
+/// one before its time that was tried so often.
 #[derive(Clone, Copy)]
 pub(crate) enum Times {
     ToSend,
     ToOffer,
+    Sooner(u8),
 }
 
 /// The place of a row in a queue of times.
@@ -27,6 +29,7 @@ fn place_of(times: Times, row: KeptRow) -> Option<u64>
     match times {
         Times::ToSend => row.message_place(),
         Times::ToOffer => row.offer_place(),
+        Times::Sooner(tries) => row.sooner_place(tries),
     }
 }
 
@@ -49,7 +52,7 @@ fn is_timely(times: Times, row: KeptRow, bound: u64) -> bool
 }
 
 /// The least number that a row of a block has.
-fn least_in(rows: &[KeptRow], times: Times, block: usize) -> Option<u64>
+pub(crate) fn least_in(rows: &[KeptRow], times: Times, block: usize) -> Option<u64>
     requires there { 64 * block < length rows.now }
     requires few { length rows.now < 2 ^ 60 }
     ensures { result ≡ least_from times rows.now (64 * block) 64 }

@@ -1,10 +1,11 @@
 //! The rows of one contact, with what was said of whole groups since its queues were last in order.
 ghost use Rattle.std.specs.Prelude.{◌≡◌, ◌+◌, ◌<◌, ◌≤◌, ◌^◌, ◌++◌, [], ℕ, true, IfOk, IfSome, OnOk, OnErr};
-ghost use Rattle.std.specs.Prelude.{Some, None, drop, length, slice_index_or, slice_set, take};
+ghost use Rattle.std.specs.Prelude.{List, Option, Some, None, drop, length, slice_index_or, slice_set, take};
 ghost use Rattle.sync_ids.specs.declared.lists.TheConstants.{MAX_IDS};
 ghost use Rattle.std.specs.List.{position_from};
 ghost use Rattle.retry_table.specs.Contacts.{HasTurnRoom, IsBlank};
-ghost use Rattle.retry_table.specs.Due.{message_in, numbers_where, offers_in};
+ghost use Rattle.retry_table.specs.Due.{message_in, numbers_where, offers_in, sooner_in};
+ghost use Rattle.retry_table.specs.Due.{sooner_offers_in};
 ghost use Rattle.retry_table.specs.Queues.{is_sought};
 ghost use Rattle.retry_table.specs.Table.{kept_in, with_numbers, with_ready};
 ghost use Rattle.retry_table.specs.Turns.{as_said, said_at, said_before, shown, turned, turns_in};
@@ -221,13 +222,8 @@ impl ContactRows {
         self.put_ready(n, ready);
     }
 
-    /// The first row from `from` on that is sought.
-    fn next_sought(
-        &self,
-        released: &[Option<Released>],
-        sought: Sought,
-        from: usize,
-    ) -> Option<usize>
+    /// The first row from `from` on that is sought, by going over the rows.
+    fn walk(&self, released: &[Option<Released>], sought: Sought, from: usize) -> Option<usize>
         ensures first { result ≡ position_from (is_sought sought) from
             (drop from (shown released.now self.now.turns.entries self.now.queues)) }
         ensures small { IfSome result (λ place. place < 2 ^ 32) }
@@ -238,6 +234,39 @@ impl ContactRows {
             }
         }
         None
+    }
+
+    /// The same, for what goes before its time by the queues where they are in order and there is one
+    /// for each number of tries.
+    fn next_sought(
+        &self,
+        released: &[Option<Released>],
+        sought: Sought,
+        from: usize,
+    ) -> Option<usize>
+        ensures first { result ≡ position_from (is_sought sought) from
+            (drop from (shown released.now self.now.turns.entries self.now.queues)) }
+        ensures small { IfSome result (λ place. place < 2 ^ 32) }
+    {
+        if let Some(found) = self.next_in_queues(sought, from) {
+            return found;
+        }
+        self.walk(released, sought, from)
+    }
+
+    /// The first row from `from` on that is sought, where the queues have an answer.
+    fn next_in_queues(&self, sought: Sought, from: usize) -> Option<Option<usize>>
+        ensures first { (released : List (Option Released)) → IfSome result (λ found. found
+            ≡ position_from (is_sought sought) from
+            (drop from (shown released self.now.turns.entries self.now.queues))) }
+        ensures small { IfSome result (λ found. IfSome found (λ place. place < 2 ^ 32)) }
+    {
+        match sought {
+            Sought::Sooner(latency, now) if self.turns.is_empty() => {
+                self.queues.next_sooner(latency, now, from)
+            }
+            _ => None,
+        }
     }
 
     /// The first 1,536 rows that are sought, in order.
@@ -292,7 +321,34 @@ impl ContactRows {
         if self.turns.is_empty() {
             return self.queues.due_message(mode, now);
         }
-        let place = self.next_sought(released, Sought::Message(mode, now), 0)?;
+        let place = self.walk(released, Sought::Message(mode, now), 0)?;
         Some(place as u32)
+    }
+
+    /// The number of the message to be sent before its time.
+    pub(crate) fn sooner_message(
+        &self,
+        released: &[Option<Released>],
+        latency: u32,
+        now: u64,
+    ) -> Option<u32>
+        ensures { result ≡ sooner_in latency now
+            (shown released.now self.now.turns.entries self.now.queues) }
+    {
+        let place = self.next_sought(released, Sought::Sooner(latency, now), 0)?;
+        Some(place as u32)
+    }
+
+    /// The numbers to be offered before their time, at most 1,536.
+    pub(crate) fn sooner_offers(
+        &self,
+        released: &[Option<Released>],
+        latency: u32,
+        now: u64,
+    ) -> Result<Vec<u32>, AllocError>
+        ensures { IfOk result (λ v. v.items ≡ sooner_offers_in latency now
+            (shown released.now self.now.turns.entries self.now.queues)) }
+    {
+        self.all_sought(released, Sought::Sooner(latency, now))
     }
 }

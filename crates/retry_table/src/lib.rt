@@ -4,6 +4,7 @@
 
 mod all_rows;
 mod blocks;
+mod classes;
 mod contact_rows;
 mod places;
 mod queues;

@@ -1,10 +1,12 @@
 //! The rows of one contact, with a queue for each thing that may be due.
 ghost use Rattle.std.specs.Prelude.{◌≡◌, ◌^◌, ◌<◌, [], IfSome, IfOk, OnOk, OnErr, length};
-ghost use Rattle.std.specs.Prelude.{slice_set};
+ghost use Rattle.std.specs.Prelude.{drop, slice_set};
+ghost use Rattle.std.specs.List.{position_from};
 ghost use Rattle.retry_table.specs.Table.{kept_in, with_numbers};
-ghost use Rattle.retry_table.specs.Due.{owed_in, message_in, offers_in};
+ghost use Rattle.retry_table.specs.Due.{is_sooner_at, message_in, offers_in, owed_in};
 
 use crate::blocks::{Times, mend, next_at_most};
+use crate::classes::Classes;
 use crate::places::{set_places, timely_places};
 use crate::rows::KeptRow;
 use due_tree::{Bits, DueTree};
@@ -21,6 +23,7 @@ pub(crate) struct Queues {
     asked: Bits,
     offers: DueTree,
     owed: Bits,
+    sooner: Classes,
 }
 
 impl Model for Queues {
@@ -32,7 +35,8 @@ impl Model for Queues {
 
     ghost view = { λ q. q.rows.items };
 
-    ghost invariant = { λ q. AreQueues q.rows.items q.messages q.asked q.offers q.owed };
+    ghost invariant = { λ q. AreQueues q.rows.items q.messages q.asked q.offers q.owed
+        q.sooner };
 }
 
 impl Queues {
@@ -50,12 +54,29 @@ impl Queues {
             asked,
             offers,
             owed,
+            sooner: Classes::new(alloc),
         })
     }
 
-    /// Makes rows for all numbers below this one. It alone takes memory; after an error all is as
-    /// before.
+    /// Makes rows for all numbers below this one, and a queue for one try more than there were. It
+    /// alone takes memory; after an error all is as before.
     pub(crate) fn reserve(&mut self, numbers: u32) -> Result<(), AllocError>
+        ensures ok { OnOk result (self.new ≡ with_numbers numbers self.old) }
+        ensures err { OnErr result (self.new ≡ self.old) }
+    {
+        self.grow()?;
+        self.reserve_rows(numbers)
+    }
+
+    /// Makes a queue for each number of tries that occurs, and for one more.
+    fn grow(&mut self) -> Result<(), AllocError>
+        ensures { self.new ≡ self.old }
+    {
+        self.sooner.grow(*self.rows.allocator(), &self.rows)
+    }
+
+    /// Makes rows for all numbers below this one.
+    fn reserve_rows(&mut self, numbers: u32) -> Result<(), AllocError>
         ensures ok { OnOk result (self.new ≡ with_numbers numbers self.old) }
         ensures err { OnErr result (self.new ≡ self.old) }
     {
@@ -67,6 +88,7 @@ impl Queues {
         self.asked.reserve(places)?;
         self.offers.reserve(places / 64 + 1)?;
         self.owed.reserve(places)?;
+        self.sooner.reserve(&self.rows, places / 64 + 1)?;
         self.rows.resize(places, KeptRow::none())?;
         Ok(())
     }
@@ -101,6 +123,7 @@ impl Queues {
         mend(&mut self.offers, Times::ToOffer, &self.rows, n, old);
         self.asked.put(n, row.is_awaited());
         self.owed.put(n, row.is_owed());
+        self.sooner.mend(&self.rows, n, old);
     }
 
     /// The numbers that wait for our acknowledgement, at most 1,536.
@@ -140,5 +163,18 @@ impl Queues {
     {
         let place = self.message_place(mode, now)?;
         Some(place as u32)
+    }
+
+    /// The first row from `from` on that goes before its time by a session of this latency. It may
+    /// be that there is no queue for some number of tries: then the rows are to be gone over.
+    pub(crate) fn next_sooner(&self, latency: u32, now: u64, from: usize) -> Option<Option<usize>>
+        ensures first { IfSome result (λ found. found ≡ position_from (is_sooner_at latency now) from
+            (drop from self.now)) }
+        ensures small { IfSome result (λ found. IfSome found (λ place. place < 2 ^ 32)) }
+    {
+        if !self.sooner.are_whole() {
+            return None;
+        }
+        Some(self.sooner.next_sooner(&self.rows, latency, now, from))
     }
 }

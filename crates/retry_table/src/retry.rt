@@ -9,6 +9,7 @@ ghost use Rattle.retry_table.specs.Table.{with_ready, row_owed, IsEmpty, KeepsRo
 ghost use Rattle.retry_table.specs.Table.{group_at, SetsGroup};
 ghost use Rattle.retry_table.specs.Table.{ReservesRows, row_heard, row_restored, tried_of};
 ghost use Rattle.retry_table.specs.Due.{owed_in, message_in, offers_in, requests_in};
+ghost use Rattle.retry_table.specs.Due.{sooner_in, sooner_offers_in};
 
 use crate::all_rows::AllRows;
 use crate::rows::KeptRow;
@@ -320,6 +321,27 @@ impl Retry {
         ensures { IfOk result (λ v. v.items ≡ offers_in now (rows_of self.now contact)) }
     {
         self.rows.due_offers(contact, now)
+    }
+
+    /// The number of the message that is to be sent to the contact at `now` before its time, by a
+    /// session of this latency in milliseconds: the first that is ready, not seen, not asked for,
+    /// and of which a try would set an expiry less than the one that stands. `None` exactly where
+    /// there is none. It is found by descent where rows were reserved behind the last `restore`, and
+    /// else by a walk.
+    pub fn sooner_message(&self, contact: u8, latency: u32, now: u64) -> Option<u32>
+        ensures { result ≡ sooner_in latency now (rows_of self.now contact) }
+    {
+        self.rows.sooner_message(contact, latency, now)
+    }
+
+    /// The numbers of the messages that are to be offered to the contact at `now` before their time,
+    /// by a session of this latency, in order, at most 1,536. Answers an error where there is no
+    /// memory.
+    pub fn sooner_offers(&self, contact: u8, latency: u32, now: u64) -> Result<Vec<u32>, AllocError>
+        ensures { IfOk result (λ v. v.items ≡ sooner_offers_in latency now
+            (rows_of self.now contact)) }
+    {
+        self.rows.sooner_offers(contact, latency, now)
     }
 
     /// Whether an id is wanted from the contact.

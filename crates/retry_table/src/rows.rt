@@ -1,12 +1,13 @@
 //! What is kept of one message for one contact.
-ghost use Rattle.std.specs.Prelude.{◌≡◌, ◌≤◌, true, false};
+ghost use Rattle.std.specs.Prelude.{◌≡◌, ◌≤◌, ◌<◌, ◌^◌, true, false};
 ghost use Rattle.sync_rules.specs.Facts.{one_more_try, expiry_after, row_seen, row_acked};
 ghost use Rattle.sync_rules.specs.Facts.{row_asked, row_sent, row_offered};
 ghost use Rattle.retry_table.specs.Table.{no_kept, with_row, with_ready, row_owed, row_restored};
 ghost use Rattle.retry_table.specs.Table.{tried_of};
 ghost use Rattle.retry_table.specs.Due.{may_be_sent};
 ghost use Rattle.retry_table.specs.Queues.{message_place, is_awaited, is_sought, offer_place};
-ghost use Rattle.sync_rules.specs.Sessions.{is_ripe};
+ghost use Rattle.retry_table.specs.Queues.{sooner_bound, sooner_place};
+ghost use Rattle.sync_rules.specs.Sessions.{goes_sooner, is_ripe};
 
 use std::marker::Model;
 use sync_ids::MessageId;
@@ -15,11 +16,13 @@ use sync_rules::{Mode, Tried};
 /// The most tries that are counted.
 const MOST_TRIES: u8 = 64;
 
-/// What is sought among the rows: a message to be sent, or one to be offered, at a time.
+/// What is sought among the rows: a message to be sent, or one to be offered, at a time; or one that
+/// goes before its time by a session of a latency.
 #[derive(Clone, Copy)]
 pub(crate) enum Sought {
     Message(Mode, u64),
     Offer(u64),
+    Sooner(u32, u64),
 }
 
 /// What is kept of one message for one contact. Contracts see the row, and whether the message is
@@ -86,6 +89,19 @@ fn one_more_try(tries: u8) -> u8
     }
 }
 
+/// The bound for what goes before its time by a session of this latency, of those that were tried so
+/// often.
+pub(crate) fn sooner_bound(latency: u32, now: u64, tries: u8) -> Option<u64>
+    ensures { result ≡ sooner_bound latency now tries }
+{
+    let expiry = expiry_after(now, latency, one_more_try(tries));
+    if expiry < u64::MAX {
+        Some(u64::MAX - 1 - expiry)
+    } else {
+        None
+    }
+}
+
 impl KeptRow {
     /// What is kept of a message of which nothing is known.
     pub(crate) fn none() -> KeptRow
@@ -113,6 +129,14 @@ impl KeptRow {
         ensures { result ≡ self.row.expiry }
     {
         self.expiry
+    }
+
+    /// How often it was sent or offered. Its expiry is one that a clock can tell.
+    pub(crate) fn tries(self) -> u8
+        ensures value { result ≡ self.row.tries }
+        ensures told { self.row.expiry < 2 ^ 64 }
+    {
+        self.tries
     }
 
     /// An acknowledgement is owed.
@@ -245,6 +269,17 @@ impl KeptRow {
         }
     }
 
+    /// The place in the queue of those that were tried so often and may go before their time.
+    pub(crate) fn sooner_place(self, tries: u8) -> Option<u64>
+        ensures { result ≡ sooner_place tries self }
+    {
+        if self.is_open() && !self.asked && self.tries == tries {
+            Some(u64::MAX - self.expiry)
+        } else {
+            None
+        }
+    }
+
     /// Whether an acknowledgement is owed.
     pub(crate) fn is_owed(self) -> bool
         ensures { result ≡ self.row.owed }
@@ -262,6 +297,13 @@ impl KeptRow {
         }
     }
 
+    /// Whether it was not asked for, and a try now would set an expiry less than the one that stands.
+    fn goes_sooner(self, latency: u32, now: u64) -> bool
+        ensures { result ≡ goes_sooner latency now self.row }
+    {
+        !self.asked && expiry_after(now, latency, one_more_try(self.tries)) < self.expiry
+    }
+
     /// Whether it is sought.
     pub(crate) fn is_sought(self, sought: Sought) -> bool
         ensures { result ≡ is_sought sought self }
@@ -269,6 +311,7 @@ impl KeptRow {
         match sought {
             Sought::Message(mode, now) => self.is_open() && self.is_ripe(mode, now),
             Sought::Offer(now) => self.is_open() && (!self.asked && self.expiry <= now),
+            Sought::Sooner(latency, now) => self.is_open() && self.goes_sooner(latency, now),
         }
     }
 }

@@ -1,7 +1,8 @@
 //! What output is due on a session.
 ghost use Rattle.std.specs.Prelude.{◌≡◌, ◌≤◌, [], length, IfOk, MatchOption};
 ghost use Rattle.sync_rules.specs.Sessions.{acks_due, due_by, offers_due, offers_of, owed_to};
-ghost use Rattle.sync_rules.specs.Sessions.{requests_due, wanted_of};
+ghost use Rattle.sync_rules.specs.Sessions.{requests_due, sooner_due, sooner_of, sooner_offers_of};
+ghost use Rattle.sync_rules.specs.Sessions.{wanted_of};
 
 use std::alloc::{AllocError, Global};
 use sync_ids::{IdList, MAX_IDS, MessageId};
@@ -27,7 +28,10 @@ pub fn due<V: View>(
     if let Some(id) = view.next_send(session.contact, session.mode, now) {
         return Ok(Some(Out::Send(id)));
     }
-    offers(alloc, view, session, now)
+    if let Some(offers) = offers(alloc, view, session, now)? {
+        return Ok(Some(offers));
+    }
+    sooner(alloc, view, session, now)
 }
 
 // The acknowledgements that are owed.
@@ -65,6 +69,27 @@ fn offers<V: View>(
         return Ok(None);
     }
     let ids = view.offers(alloc, session.contact, now)?;
+    Ok(id_list(ids).map(Out::Offers))
+}
+
+// What goes again before its time.
+fn sooner<V: View>(
+    alloc: Global,
+    view: &V,
+    session: &Session,
+    now: u64,
+) -> Result<Option<Out>, AllocError>
+    ensures { IfOk result (λ what. what ≡ sooner_due session.now.mode
+        (sooner_of (V.seen view.now).facts (V.seen view.now).shared session.now.contact
+        session.now.latency now)
+        (sooner_offers_of (V.seen view.now).facts (V.seen view.now).shared session.now.contact
+        session.now.latency now)) }
+{
+    if session.mode == Mode::Batch {
+        let first = view.next_sooner(session.contact, session.latency, now);
+        return Ok(first.map(Out::Send));
+    }
+    let ids = view.sooner_offers(alloc, session.contact, session.latency, now)?;
     Ok(id_list(ids).map(Out::Offers))
 }
 

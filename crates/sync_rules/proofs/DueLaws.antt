@@ -28,7 +28,8 @@ use Rattle.sync_rules.specs.Facts.{wanted_from, without_each, with_want, authore
 use Rattle.sync_rules.specs.Steps.{IsSettled}
 use Rattle.sync_rules.specs.Sessions.{ids_where, shared_ids, is_sendable, is_ripe, owed_to}
 use Rattle.sync_rules.specs.Sessions.{wanted_of, send_of, offers_of, acks_due, requests_due}
-use Rattle.sync_rules.specs.Sessions.{send_due, offers_due, due_by, due}
+use Rattle.sync_rules.specs.Sessions.{send_due, offers_due, due_by, due, due_on_any_way}
+use Rattle.sync_rules.specs.Sessions.{goes_sooner, sooner_of, sooner_offers_of, sooner_due}
 use Rattle.sync_rules.specs.Legal.{Legal, Allowed, IsDue}
 use Rattle.sync_rules.specs.Output.{AllHeld, out_records, first_records, nonce_record}
 use Rattle.sync_rules.specs.Output.{message_record, sent}
@@ -134,9 +135,14 @@ module _ (f : Facts) where
       let same : out.Send id ≡ what = cc in
       subst (NamesDistinct f contact) same (held id refl)
 
+  sooner_distinct : (contact : ℕ) (what : Out) (mode : Mode) (o : Option Id) (ids : List Id) → ((id : Id) → o ≡ Some id → is_held f.held id ≡ true)
+      → has_repeat ids ≡ false → length ids ≤ MAX_IDS → AllHeld f ids → sooner_due mode o ids ≡ Some what → NamesDistinct f contact what
+  sooner_distinct contact what mode_kind.Batch o ids one d few held e = send_held contact what o one e
+  sooner_distinct contact what mode_kind.Interactive o ids one d few held e = offers_distinct contact what mode_kind.Interactive ids d few held e
+
   module _ (h : HasHeld f) (w : HasWanted f) where
-    due_distinct : (shared : List Id) (x : Session) (now : ℕ) (what : Out) → due_by f shared x now ≡ Some what → NamesDistinct f x.contact what
-    due_distinct shared x now what e =
+    any_way_distinct : (shared : List Id) (x : Session) (now : ℕ) (what : Out) → due_on_any_way f shared x now ≡ Some what → NamesDistinct f x.contact what
+    any_way_distinct shared x now what e =
         let offers : Option Out = offers_due x.mode (offers_of f shared x.contact now) in
         let send : Option Out = send_due (send_of f shared x.contact x.mode now) in
         let requests : Option Out = requests_due x.mode (wanted_of f x.contact) in
@@ -164,6 +170,19 @@ module _ (f : Facts) where
                           (take_few MAX_IDS (ids_where offered f.held)) (λ id among. held_by offered id (among-take MAX_IDS (ids_where offered f.held) id among)) a
                     ]
               ]
+        ]
+
+    due_distinct : (shared : List Id) (x : Session) (now : ℕ) (what : Out) → due_by f shared x now ≡ Some what → NamesDistinct f x.contact what
+    due_distinct shared x now what e =
+        let test : Held → Bool = λ k. is_sendable f shared x.contact k && goes_sooner x.latency now (row_at f.rows x.contact k.id) in
+        elim (option_or-cases (due_on_any_way f shared x now)
+        (sooner_due x.mode (sooner_of f shared x.contact x.latency now) (sooner_offers_of f shared x.contact x.latency now)) what e) [
+          | inl a ↦ any_way_distinct shared x now what a
+          | inr b ↦
+              sooner_distinct x.contact what x.mode (sooner_of f shared x.contact x.latency now) (sooner_offers_of f shared x.contact x.latency now)
+              (λ id is. held_by test id (first-among (ids_where test f.held) id is))
+              (take_distinct MAX_IDS (ids_where test f.held) (where_distinct test f.held h.distinct)) (take_few MAX_IDS (ids_where test f.held))
+              (λ id among. held_by test id (among-take MAX_IDS (ids_where test f.held) id among)) b
         ]
 
     pub due_names_distinct : (clients : Meaning) (o : Option Session) (now : ℕ) (what : Out) → IsDue clients f o now what → NamesDistinct f (contact_in o) what

@@ -30,6 +30,7 @@ pub mod Runs
 pub mod ScanLaws
 pub mod SessionLaws
 pub mod Settling
+pub mod SoonerLaws
 pub mod Sound
 pub mod StartLaws
 pub mod StepKinds

@@ -24,6 +24,8 @@ use Rattle.sync_rules.specs.Sessions.{acks_due, due_by, first_id, ids_where, is_
 use Rattle.sync_rules.specs.Sessions.{is_sendable, is_shown, is_shown_held}
 use Rattle.sync_rules.specs.Sessions.{is_welcome, offers_due, offers_of, one_if, owed_to}
 use Rattle.sync_rules.specs.Sessions.{requests_due, room_after, send_due, send_of}
+use Rattle.sync_rules.specs.Sessions.{due_on_any_way, goes_sooner, sooner_due, sooner_of}
+use Rattle.sync_rules.specs.Sessions.{sooner_offers_of}
 use Rattle.sync_rules.specs.Sessions.{shared_ids, taken, taken_acks, taken_message}
 use Rattle.sync_rules.specs.Sessions.{taken_message_of, taken_offers, taken_requests, wanted_of}
 use Rattle.sync_rules.specs.Legal.{Allowed, AreRows, IsDue, IsSettling, MayStandAlone, SuitsRows}
@@ -220,10 +222,10 @@ module _ (test : Id → Bool) where
   offers_pass mode_kind.Interactive (id ∷ ids) what all e =
       let same : out.Offers (id ∷ ids) ≡ what = cc in subst NamesPass same all
 
-due_held : (f : Facts) (shared : List Id) (x : Session) (now : ℕ) (what : Out)
-    → due_by f shared x now ≡ Some what
+any_way_held : (f : Facts) (shared : List Id) (x : Session) (now : ℕ) (what : Out)
+    → due_on_any_way f shared x now ≡ Some what
     → list_all (is_held f.held) (held_named what) ≡ true
-due_held f shared x now what e =
+any_way_held f shared x now what e =
     let test : Id → Bool = is_held f.held in
     let acks : Option Out = acks_due (owed_to f x.contact) in
     let requests : Option Out = requests_due x.mode (wanted_of f x.contact) in
@@ -245,6 +247,24 @@ due_held f shared x now what e =
                       (all_take test MAX_IDS _ (where_held _ f.held)) a
                 ]
           ]
+    ]
+
+sooner_held : (f : Facts) (test : Held → Bool) (mode : Mode) (what : Out)
+    → sooner_due mode (first_id (ids_where test f.held)) (take MAX_IDS (ids_where test f.held)) ≡ Some what
+    → list_all (is_held f.held) (held_named what) ≡ true
+sooner_held f test mode_kind.Batch what e = send_pass (is_held f.held) (ids_where test f.held) what (where_held test f.held) e
+sooner_held f test mode_kind.Interactive what e =
+    offers_pass (is_held f.held) mode_kind.Interactive (take MAX_IDS (ids_where test f.held)) what
+    (all_take (is_held f.held) MAX_IDS _ (where_held _ f.held)) e
+
+due_held : (f : Facts) (shared : List Id) (x : Session) (now : ℕ) (what : Out)
+    → due_by f shared x now ≡ Some what
+    → list_all (is_held f.held) (held_named what) ≡ true
+due_held f shared x now what e =
+    elim (option_or-cases (due_on_any_way f shared x now)
+    (sooner_due x.mode (sooner_of f shared x.contact x.latency now) (sooner_offers_of f shared x.contact x.latency now)) what e) [
+      | inl a ↦ any_way_held f shared x now what a
+      | inr b ↦ sooner_held f (λ h. is_sendable f shared x.contact h && goes_sooner x.latency now (row_at f.rows x.contact h.id)) x.mode what b
     ]
 
 out_held : (clients : Meaning) (f : Facts) (o : Option Session) (now : ℕ) (what : Out)

@@ -20,7 +20,8 @@ use Rattle.sync_rules.specs.Steps.{fate, fate_held}
 use Rattle.sync_rules.specs.Rounds.{graph_of}
 use Rattle.sync_rules.specs.Sessions.{ids_where, shared_ids, is_sendable, is_author, is_ripe}
 use Rattle.sync_rules.specs.Sessions.{owed_to, wanted_of, send_of, offers_of, first_id, acks_due}
-use Rattle.sync_rules.specs.Sessions.{requests_due, send_due, offers_due, due_by}
+use Rattle.sync_rules.specs.Sessions.{requests_due, send_due, offers_due, due_by, due_on_any_way}
+use Rattle.sync_rules.specs.Sessions.{goes_sooner, sooner_of, sooner_offers_of, sooner_due}
 use Rattle.sync_rules.specs.Legal.{Legal, IsDue}
 use Rattle.sync_rules.specs.Output.{IsOpen, NamesTheOpen, SendsTheOpen, records_by, records_in}
 use Rattle.sync_rules.specs.Output.{message_record, first_records, sent, sent_if_begun, GoesOnFrom}
@@ -154,8 +155,21 @@ module _ (clients : Meaning) (f : Facts) (s : SoundFacts clients f) where
       let x = found_by test f.held id (among-take MAX_IDS (ids_where test f.held) id e) in
       open_if shared contact id x.of x.inside x.same (and_parts (is_sendable f shared contact x.of) (rest x.of) x.passes).0
 
-  due_named : (shared : List Id) (x : Session) (now : ℕ) (what : Out) → due_by f shared x now ≡ Some what → NamesTheOpen f x.contact what
-  due_named shared x now what e =
+  sooner_open : (shared : List Id) (contact latency now : ℕ) (id : Id)
+      → is_among (ids_where (λ h. is_sendable f shared contact h && goes_sooner latency now (row_at f.rows contact h.id)) f.held) id ≡ true → IsOpen f contact id
+  sooner_open shared contact latency now id e =
+      let rest : Held → Bool = λ h. goes_sooner latency now (row_at f.rows contact h.id) in
+      let test : Held → Bool = λ h. is_sendable f shared contact h && rest h in
+      let x = found_by test f.held id e in
+      open_if shared contact id x.of x.inside x.same (and_parts (is_sendable f shared contact x.of) (rest x.of) x.passes).0
+
+  sooner_named : (contact : ℕ) (what : Out) (mode : Mode) (o : Option Id) (ids : List Id) → ((id : Id) → o ≡ Some id → IsOpen f contact id)
+      → ((id : Id) → is_among ids id ≡ true → IsOpen f contact id) → sooner_due mode o ids ≡ Some what → NamesTheOpen f contact what
+  sooner_named contact what mode_kind.Batch o ids one all e = send_named contact what o one e
+  sooner_named contact what mode_kind.Interactive o ids one all e = offers_named contact what mode_kind.Interactive ids all e
+
+  any_way_named : (shared : List Id) (x : Session) (now : ℕ) (what : Out) → due_on_any_way f shared x now ≡ Some what → NamesTheOpen f x.contact what
+  any_way_named shared x now what e =
       let offers : Option Out = offers_due x.mode (offers_of f shared x.contact now) in
       let send : Option Out = send_due (send_of f shared x.contact x.mode now) in
       let requests : Option Out = requests_due x.mode (wanted_of f x.contact) in
@@ -171,6 +185,18 @@ module _ (clients : Meaning) (f : Facts) (s : SoundFacts clients f) where
                     | inr a ↦ offers_named x.contact what x.mode (offers_of f shared x.contact now) (offers_open shared x.contact now) a
                   ]
             ]
+      ]
+
+  due_named : (shared : List Id) (x : Session) (now : ℕ) (what : Out) → due_by f shared x now ≡ Some what → NamesTheOpen f x.contact what
+  due_named shared x now what e =
+      let test : Held → Bool = λ h. is_sendable f shared x.contact h && goes_sooner x.latency now (row_at f.rows x.contact h.id) in
+      elim (option_or-cases (due_on_any_way f shared x now)
+      (sooner_due x.mode (sooner_of f shared x.contact x.latency now) (sooner_offers_of f shared x.contact x.latency now)) what e) [
+        | inl a ↦ any_way_named shared x now what a
+        | inr b ↦
+            sooner_named x.contact what x.mode (sooner_of f shared x.contact x.latency now) (sooner_offers_of f shared x.contact x.latency now)
+            (λ id is. sooner_open shared x.contact x.latency now id (first-among (ids_where test f.held) id is))
+            (λ id among. sooner_open shared x.contact x.latency now id (among-take MAX_IDS (ids_where test f.held) id among)) b
       ]
 
   pub out_named : (o : Option Session) (now : ℕ) (what : Out) → IsDue clients f o now what → NamesTheOpen f (contact_in o) what

@@ -5,6 +5,7 @@ pub mod Codes
 pub mod Steps
 pub mod Rounds
 pub mod Sessions
+pub mod SoonerLaws
 pub mod Legal
 pub mod Left
 pub mod Allows

@@ -20,7 +20,7 @@ use Rattle.sync_rules.specs.declared.states.Origin.TheVariants as origin
 use Rattle.sync_rules.specs.declared.limits.TheConstants.{MAX_WANTED}
 use Rattle.sync_rules.specs.Clients.{Meaning}
 use Rattle.sync_rules.specs.Lists.{is_among, firsts}
-use Rattle.sync_rules.specs.Facts.{Facts, Held, Id, Row, held_at, group_at, contact_of, level_at, is_invisible, is_level_shared, row_at, wanted_from}
+use Rattle.sync_rules.specs.Facts.{Facts, Held, Id, Row, held_at, group_at, contact_of, level_at, is_invisible, is_level_shared, row_at, wanted_from, expiry_after, one_more_try}
 use Rattle.sync_rules.specs.Steps.{answer_of}
 
 -- ---- what a record is taken as
@@ -159,6 +159,24 @@ offers_of f shared contact now =
     (ids_where (λ h. is_sendable f shared contact h
     && (not (row_at f.rows contact h.id).asked && nat_le (row_at f.rows contact h.id).expiry now)) f.held)
 
+-- a try at this time, on a session of this latency, would set an expiry that is less than the one that stands
+abbrev pub is_sooner : ℕ → ℕ → Row → Bool
+is_sooner latency now r = nat_lt (expiry_after now latency (one_more_try r.tries)) r.expiry
+
+-- a message that goes again before its time, since this way is quicker: it was not asked for, and a try would be sooner
+abbrev pub goes_sooner : ℕ → ℕ → Row → Bool
+goes_sooner latency now r = not r.asked && is_sooner latency now r
+
+-- the first message to be sent before its time
+abbrev pub sooner_of : Facts → List Id → ℕ → ℕ → ℕ → Option Id
+sooner_of f shared contact latency now =
+    first_id (ids_where (λ h. is_sendable f shared contact h && goes_sooner latency now (row_at f.rows contact h.id)) f.held)
+
+-- the ids to offer before their time
+abbrev pub sooner_offers_of : Facts → List Id → ℕ → ℕ → ℕ → List Id
+sooner_offers_of f shared contact latency now =
+    take MAX_IDS (ids_where (λ h. is_sendable f shared contact h && goes_sooner latency now (row_at f.rows contact h.id)) f.held)
+
 abbrev pub acks_due : List Id → Option Out
 acks_due [] = None
 acks_due (id ∷ ids) = Some (out.Acks (id ∷ ids))
@@ -177,14 +195,26 @@ offers_due mode_kind.Batch ids = None
 offers_due mode_kind.Interactive [] = None
 offers_due mode_kind.Interactive (id ∷ ids) = Some (out.Offers (id ∷ ids))
 
--- what is due on a session at a time: the first of these that exists. Acknowledgements; in interactive mode requests; one
+-- before its time: in batch mode one message, in interactive mode offers
+abbrev pub sooner_due : Mode → Option Id → List Id → Option Out
+sooner_due mode_kind.Batch first ids = send_due first
+sooner_due mode_kind.Interactive first ids = offers_due mode_kind.Interactive ids
+
+-- what is due whatever the latency: the first of these that exists. Acknowledgements; in interactive mode requests; one
 -- message; in interactive mode offers
-abbrev pub due_by : Facts → List Id → Session → ℕ → Option Out
-due_by f shared s now =
+abbrev pub due_on_any_way : Facts → List Id → Session → ℕ → Option Out
+due_on_any_way f shared s now =
     option_or (acks_due (owed_to f s.contact))
     (option_or (requests_due s.mode (wanted_of f s.contact))
     (option_or (send_due (send_of f shared s.contact s.mode now))
     (offers_due s.mode (offers_of f shared s.contact now))))
+
+-- what is due on a session at a time: what is due whatever the latency; and behind all that what goes again before its
+-- time, since this way is quicker
+abbrev pub due_by : Facts → List Id → Session → ℕ → Option Out
+due_by f shared s now =
+    option_or (due_on_any_way f shared s now)
+    (sooner_due s.mode (sooner_of f shared s.contact s.latency now) (sooner_offers_of f shared s.contact s.latency now))
 
 abbrev pub due : Meaning → Facts → Session → ℕ → Option Out
 due clients f s now = due_by f (shared_ids clients f) s now

@@ -14,6 +14,8 @@ ghost use Rattle.sync_rules.specs.Output.{GoesOnFrom, sent, SendsTheOpen};
 ghost use Rattle.sync_rules.specs.PeerLaws.{AskedLaw, CutLaw, ExpiryLaw, NoExpiryLaw, OwedLaw};
 ghost use Rattle.sync_rules.specs.PeerLaws.{SeenLaw, TriesLaw, WantedLaw};
 ghost use Rattle.sync_rules.specs.Rounds.{bad, good, Graph};
+ghost use Rattle.sync_rules.specs.SoonerLaws.{NotSoonerStays, SoonerComesLast, SoonerLowersExpiry};
+ghost use Rattle.sync_rules.specs.SoonerLaws.{SoonerTriesAreFew, TriedIsNotSooner};
 ghost use Rattle.sync_rules.specs.Steps.{IsSettled};
 ghost use Rattle.sync_rules.specs.Views.{KnowsShown};
 ghost use Rattle.sync_rules.specs.declared.entries.Entry.{Entry};
@@ -120,6 +122,19 @@ pub fn tries()
 pub fn expiry()
     ensures none { (j : List (List Entry)) → NoExpiryLaw (entries_of j) }
     ensures last { (j : List (List Entry)) → ExpiryLaw (entries_of j) }
+{}
+
+/// Sooner: what is due whatever the latency of its session is due before all that goes again before
+/// its time. Behind a sooner try the expiry is less than before; behind any try the message is not
+/// sooner at that moment for the same latency or a longer one, and what is not sooner stays so as
+/// time goes on. So as long as the clock stands, a session tries a message at most once more until
+/// it is asked for; and until then at most 62 tries are sooner ones, whatever the clock does.
+pub fn sooner()
+    ensures last { SoonerComesLast }
+    ensures lower { SoonerLowersExpiry }
+    ensures once { TriedIsNotSooner }
+    ensures ends { NotSoonerStays }
+    ensures few { SoonerTriesAreFew }
 {}
 
 /// Begun: in every list of batches, legal or not, no more sessions are in the list than have begun.

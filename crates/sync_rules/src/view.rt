@@ -3,7 +3,8 @@ ghost use Rattle.std.specs.Prelude.{◌≡◌, ◌<◌, not, length, IfOk};
 ghost use Rattle.std.specs.List.{slice_get};
 ghost use Rattle.sync_rules.specs.Facts.{is_invisible, level_at, wanted_from};
 ghost use Rattle.sync_rules.specs.Lists.{is_among};
-ghost use Rattle.sync_rules.specs.Sessions.{is_welcome, offers_of, owed_to, send_of, wanted_of};
+ghost use Rattle.sync_rules.specs.Sessions.{is_welcome, offers_of, owed_to, send_of, sooner_of};
+ghost use Rattle.sync_rules.specs.Sessions.{sooner_offers_of, wanted_of};
 ghost use Rattle.sync_rules.specs.Views.{group_in, is_seen_in, IsFound, place_of, Seen};
 
 use crate::entries::{Level, Mode};
@@ -69,4 +70,24 @@ pub trait View {
     fn offers(&self, alloc: Global, contact: u8, now: u64) -> Result<Vec<MessageId>, AllocError>
         ensures { IfOk result (λ ids. ids.items ≡ offers_of (seen self.now).facts
             (seen self.now).shared contact now) };
+
+    /// The first message, in order of arrival, that is to be sent to the contact before its time on
+    /// a session of this latency in milliseconds: one that may be sent to it, is not asked for by
+    /// it, and of which a try now would set an expiry less than the one that stands. `None` comes
+    /// exactly where there is none.
+    fn next_sooner(&self, contact: u8, latency: u32, now: u64) -> Option<MessageId>
+        ensures { result ≡ sooner_of (seen self.now).facts (seen self.now).shared contact latency
+            now };
+
+    /// The ids to offer to the contact before their time on a session of this latency, in order of
+    /// arrival.
+    fn sooner_offers(
+        &self,
+        alloc: Global,
+        contact: u8,
+        latency: u32,
+        now: u64,
+    ) -> Result<Vec<MessageId>, AllocError>
+        ensures { IfOk result (λ ids. ids.items ≡ sooner_offers_of (seen self.now).facts
+            (seen self.now).shared contact latency now) };
 }

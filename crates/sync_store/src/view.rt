@@ -50,6 +50,20 @@ impl View for Store {
     fn offers(&self, alloc: Global, contact: u8, now: u64) -> Result<Vec<MessageId>, AllocError> {
         self.state.offers(alloc, contact, now)
     }
+
+    fn next_sooner(&self, contact: u8, latency: u32, now: u64) -> Option<MessageId> {
+        self.state.next_sooner(contact, latency, now)
+    }
+
+    fn sooner_offers(
+        &self,
+        alloc: Global,
+        contact: u8,
+        latency: u32,
+        now: u64,
+    ) -> Result<Vec<MessageId>, AllocError> {
+        self.state.sooner_offers(alloc, contact, latency, now)
+    }
 }
 
 // The messages that it holds, each named by its arrival number.

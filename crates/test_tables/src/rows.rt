@@ -258,6 +258,49 @@ fn message(rows: &[Plain], mode: Mode, now: u64) -> Option<u32> {
     None
 }
 
+/// Whether a try now would set an expiry less than the one that stands, of a message that may be sent
+/// and was not asked for.
+fn is_sooner(row: &Plain, latency: u32, now: u64) -> bool {
+    let mut tried = *row;
+    try_again(&mut tried, now, latency);
+    row.ready && !row.seen && !row.asked && tried.expiry < row.expiry
+}
+
+/// The numbers that go before their time, by a walk.
+fn sooner(rt: &impl Abort, alloc: Global, rows: &[Plain], latency: u32, now: u64) -> Vec<u32> {
+    let mut numbers = Vec::new(alloc);
+    let mut n = 0u32;
+    for row in rows {
+        if is_sooner(row, latency, now) {
+            made(rt, numbers.push(n));
+        }
+        n = n.wrapping_add(1);
+    }
+    numbers
+}
+
+/// Compares what both tables answer of what goes before its time.
+fn compare_sooner(
+    rt: &impl Abort,
+    alloc: Global,
+    retry: &Retry,
+    peer: &PlainPeer,
+    latency: u32,
+    now: u64,
+) {
+    let contact = peer.contact;
+    let numbers = sooner(rt, alloc, &peer.rows, latency, now);
+    let first = numbers.first().copied();
+    same(
+        rt,
+        now,
+        &retry.sooner_message(contact, latency, now),
+        &first,
+    );
+    let offers = made(rt, retry.sooner_offers(contact, latency, now));
+    same(rt, now, &offers, &numbers);
+}
+
 /// Compares what both tables answer at a time.
 fn compare(rt: &impl Abort, alloc: Global, retry: &Retry, peer: &PlainPeer, now: u64) {
     let contact = peer.contact;
@@ -269,6 +312,9 @@ fn compare(rt: &impl Abort, alloc: Global, retry: &Retry, peer: &PlainPeer, now:
     same(rt, now, &offers, &listed(rt, alloc, &peer.rows, false, now));
     let owed = made(rt, retry.owed(contact));
     same(rt, now, &owed, &listed(rt, alloc, &peer.rows, true, now));
+    for latency in [0, 1, 1_000, u32::MAX] {
+        compare_sooner(rt, alloc, retry, peer, latency, now);
+    }
 }
 
 /// What the plain table keeps of a message, as it may be stated.
@@ -386,6 +432,57 @@ fn the_wait_doubles_until_a_request(rt: HostRuntime) {
 fn due(rt: &impl Abort, retry: &Retry, now: u64, message: Option<u32>, offers: usize) {
     same(rt, now, &retry.due_message(4, Mode::Batch, now), &message);
     same(rt, now, &made(rt, retry.due_offers(4, now)).len(), &offers);
+}
+
+/// The message that goes before its time to a contact, by a session of this latency.
+fn goes_sooner(
+    rt: &impl Abort,
+    retry: &Retry,
+    latency: u32,
+    now: u64,
+    message: Option<u32>,
+    offers: usize,
+) {
+    same(rt, now, &retry.sooner_message(5, latency, now), &message);
+    same(
+        rt,
+        now,
+        &made(rt, retry.sooner_offers(5, latency, now)).len(),
+        &offers,
+    );
+}
+
+#[test]
+fn a_quicker_way_is_sooner_where_its_doubled_wait_is_less(rt: HostRuntime) {
+    let hasher = made(&rt, RandomState::new(&rt));
+    let mut retry = table_of(&rt, rt.alloc(), hasher);
+    change(&rt, &mut retry, 5, 0, RowChange::Ready);
+    let day = 86_400_000;
+    same(
+        &rt,
+        1,
+        &changed(&rt, &mut retry, 5, RowChange::Send(0, day)),
+        &172_800_000,
+    );
+    // behind one try the next waits four ways: from an hour on until two days
+    goes_sooner(&rt, &retry, 42_299_999, 3_600_000, Some(0), 1);
+    goes_sooner(&rt, &retry, 42_300_000, 3_600_000, None, 0);
+    made(&rt, retry.reserve(5, NUMBERS as u32, 0));
+    goes_sooner(&rt, &retry, 42_299_999, 3_600_000, Some(0), 1);
+    goes_sooner(&rt, &retry, 42_300_000, 3_600_000, None, 0);
+    let quick = RowChange::Offer(3_600_000, 1_000);
+    same(&rt, 2, &changed(&rt, &mut retry, 5, quick), &3_604_000);
+    goes_sooner(&rt, &retry, 1_000, 3_600_000, None, 0);
+    // eight of 499 are 3,992 and less than the 4,000 that stand, of 500 they are as many
+    goes_sooner(&rt, &retry, 499, 3_600_000, Some(0), 1);
+    goes_sooner(&rt, &retry, 500, 3_600_000, None, 0);
+    change(&rt, &mut retry, 5, 0, RowChange::Unready);
+    goes_sooner(&rt, &retry, 1, 0, None, 0);
+    change(&rt, &mut retry, 5, 0, RowChange::Ready);
+    goes_sooner(&rt, &retry, 1, 0, Some(0), 1);
+    change(&rt, &mut retry, 5, 0, RowChange::See);
+    goes_sooner(&rt, &retry, 1, 0, None, 0);
+    let_go(retry);
 }
 
 #[test]

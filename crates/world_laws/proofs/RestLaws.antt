@@ -12,6 +12,7 @@ use Rattle.sync_rules.specs.Facts.{Facts, Held, Id, Row, row_at}
 use Rattle.sync_rules.specs.Sessions.{acks_due, due_by, first_id, ids_where, is_ripe, is_sendable}
 use Rattle.sync_rules.specs.Sessions.{offers_due, offers_of, owed_to, requests_due, send_due}
 use Rattle.sync_rules.specs.Sessions.{send_of, wanted_of}
+use Rattle.sync_rules.specs.Sessions.{due_on_any_way, sooner_due, sooner_of, sooner_offers_of}
 
 -- no id passes a test
 none_passes : (test : Held → Bool) (hs : List Held) → ids_where test hs ≡ [] → (h : Held) → In h hs → test h ≡ false
@@ -73,8 +74,10 @@ none_sendable f shared s now none h inside waits =
     let sends : Held → Bool = λ k. is_sendable f shared s.contact k && is_ripe s.mode now (row_at f.rows s.contact k.id) in
     let offered : Held → Bool = λ k. is_sendable f shared s.contact k
     && (not (row_at f.rows s.contact k.id).asked && nat_le (row_at f.rows s.contact k.id).expiry now) in
+    let first = option_or-none (due_on_any_way f shared s now)
+    (sooner_due s.mode (sooner_of f shared s.contact s.latency now) (sooner_offers_of f shared s.contact s.latency now)) none in
     let a = option_or-none (acks_due (owed_to f s.contact))
-    (option_or requests (option_or send offers)) none in
+    (option_or requests (option_or send offers)) first.0 in
     let b = option_or-none requests (option_or send offers) a.1 in
     let c = option_or-none send offers b.1 in
     let no_send : ids_where sends f.held ≡ [] = first_none (ids_where sends f.held) (send_none (send_of f shared s.contact s.mode now) c.0) in

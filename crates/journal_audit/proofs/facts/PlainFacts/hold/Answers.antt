@@ -49,7 +49,7 @@ returns-clause-held g c =
           held_facts p c.hold-2.new.self c.hold.new.self l c.requires.sound.lines c.in_ok-hold.ensures.lines c.in_ok-hold.ensures.delivered refl refl c.hold.ensures
           ∙ ap (λ (i : Id). with_message p i c.args.from m) c.id_known-id.ensures;
       sound =
-          sound_held p.contacts p.groups p.levels p.messages p.rows p.waiting p.sleepers p.owed p.ready c.requires.sound c.hold-2.new.self c.wake.new.waiting l
+          sound_held p.contacts p.groups p.levels p.messages p.rows p.waiting p.sleepers p.owed p.ready p.early c.requires.sound c.hold-2.new.self c.wake.new.waiting l
           c.in_ok-hold.ensures.lines c.in_ok-hold.ensures.delivered c.requires.fits.known_group
           (ap (is_held (held_in lines)) c.id_known-id.ensures ∙ c.requires.fits.new) refl refl
           (woken_as c.hold-2.new.self p.sleepers l.id l.id c.under.result.now c.add.new.self c.wake.new.waiting

@@ -11,7 +11,7 @@ use Rattle.journal_audit.proofs.facts.PlainFacts.take_delivered.Goals as goal
 pub wake-requires : goal.wake-requires
 wake-requires c =
     let p = c.args.self.now in
-    lines_ended p.contacts p.groups p.levels p.messages p.rows p.waiting p.sleepers p.owed p.ready c.requires.sound c.deliver.new.self c.in-Some.n c.line.result.now
+    lines_ended p.contacts p.groups p.levels p.messages p.rows p.waiting p.sleepers p.owed p.ready p.early c.requires.sound c.deliver.new.self c.in-Some.n c.line.result.now
     c.line.ensures c.in_ok-deliver.ensures.lines c.in_ok-deliver.ensures.delivered
 
 pub returns : goal.returns
@@ -26,7 +26,7 @@ returns c =
           delivered_facts p after c.in-Some.n l c.line.ensures changed c.in_ok-deliver.ensures.delivered
           ∙ ap (λ (id : Id). record (facts_of p) { delivered = delivered_in p.messages ++ id ∷ [] }) (line_named lines c.args.id.now c.in-Some.n l c.in-Some.ensures.found c.line.ensures);
       sound =
-          sound_delivered p.contacts p.groups p.levels p.messages p.rows p.waiting p.sleepers p.owed p.ready c.requires.sound after c.in-Some.n l c.wake.new.waiting
+          sound_delivered p.contacts p.groups p.levels p.messages p.rows p.waiting p.sleepers p.owed p.ready p.early c.requires.sound after c.in-Some.n l c.wake.new.waiting
           c.line.ensures changed c.in_ok-deliver.ensures.delivered
           (woken_as after p.sleepers c.args.id.now l.id c.under.result.now c.stop_waiting.new.waiting c.wake.new.waiting
           (λ m. cond (nat_eq m c.in-Some.n && l.judged) false (has p.waiting m))

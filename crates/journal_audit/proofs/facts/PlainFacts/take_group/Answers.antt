@@ -11,6 +11,6 @@ returns c =
     let x = known_of c.args.def in
     record {
       facts = ap (λ (groups : List Known). facts_of (record p { groups = groups })) c.in_ok-add.ensures;
-      sound = sound_group p.contacts p.groups p.levels p.messages p.rows p.waiting p.sleepers p.owed p.ready c.requires x c.add.new.self c.in_ok-add.ensures;
+      sound = sound_group p.contacts p.groups p.levels p.messages p.rows p.waiting p.sleepers p.owed p.ready p.early c.requires x c.add.new.self c.in_ok-add.ensures;
       knows = λ clients knows. knows_group clients p.groups c.add.new.self x p.messages.lines c.in_ok-add.ensures c.requires.grouped knows;
     }

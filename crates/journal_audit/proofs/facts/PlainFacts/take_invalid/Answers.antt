@@ -12,7 +12,7 @@ use Rattle.journal_audit.proofs.facts.PlainFacts.take_invalid.Goals as goal
 pub wake-requires : goal.wake-requires
 wake-requires c =
     let p = c.args.self.now in
-    lines_refused p.contacts p.groups p.levels p.messages p.rows p.waiting p.sleepers p.owed p.ready c.requires.sound c.refuse.new.self c.in-Some.n c.refuse.ensures.lines
+    lines_refused p.contacts p.groups p.levels p.messages p.rows p.waiting p.sleepers p.owed p.ready p.early c.requires.sound c.refuse.new.self c.in-Some.n c.refuse.ensures.lines
     c.refuse.ensures.delivered
 
 pub returns : goal.returns
@@ -26,7 +26,7 @@ returns c =
           invalid_facts p after c.in-Some.n l c.line.ensures c.refuse.ensures.lines c.refuse.ensures.delivered
           ∙ ap (λ (id : Id). record (facts_of p) { invalid = fin_set.insert (invalid_in lines) id }) (line_named lines c.args.id.now c.in-Some.n l c.in-Some.ensures.found c.line.ensures);
       sound =
-          sound_refused p.contacts p.groups p.levels p.messages p.rows p.waiting p.sleepers p.owed p.ready c.requires.sound after c.in-Some.n l c.wake.new.waiting
+          sound_refused p.contacts p.groups p.levels p.messages p.rows p.waiting p.sleepers p.owed p.ready p.early c.requires.sound after c.in-Some.n l c.wake.new.waiting
           c.line.ensures c.refuse.ensures.lines c.refuse.ensures.delivered
           (woken_as after p.sleepers c.args.id.now l.id c.under.result.now c.stop_waiting.new.waiting c.wake.new.waiting
           (λ m. cond (nat_eq m c.in-Some.n && l.judged) false (has p.waiting m))

@@ -12,7 +12,7 @@ use Rattle.journal_audit.proofs.facts.PlainFacts.take_judged.Goals as goal
 pub lay_down-requires : goal.lay_down-requires
 lay_down-requires c =
     let p = c.args.self.now in
-    lines_judged p.contacts p.groups p.levels p.messages p.rows p.waiting p.sleepers p.owed p.ready c.requires.sound c.judge.new.self c.in-Some.n c.judge.ensures.lines
+    lines_judged p.contacts p.groups p.levels p.messages p.rows p.waiting p.sleepers p.owed p.ready p.early c.requires.sound c.judge.new.self c.in-Some.n c.judge.ensures.lines
     c.judge.ensures.delivered
 
 pub returns : goal.returns
@@ -27,7 +27,7 @@ returns c =
           judged_facts p after c.in-Some.n line.line line.at c.judge.ensures.lines c.judge.ensures.delivered
           ∙ ap (λ (id : Id). record (facts_of p) { judged = fin_set.insert (judged_in lines) id }) (line_named lines c.args.id.now c.in-Some.n line.line place line.at);
       sound =
-          sound_judged p.contacts p.groups p.levels p.messages p.rows p.waiting p.sleepers p.owed p.ready c.requires.sound after c.in-Some.n
+          sound_judged p.contacts p.groups p.levels p.messages p.rows p.waiting p.sleepers p.owed p.ready p.early c.requires.sound after c.in-Some.n
           c.lay_down.new.waiting c.lay_down.new.sleepers c.judge.ensures.lines c.judge.ensures.delivered c.in_ok-lay_down.ensures;
       knows = λ clients knows. knows_changed clients p.groups judged_line (λ l. refl) (λ l. refl) c.in-Some.n lines after.lines c.judge.ensures.lines knows;
     }

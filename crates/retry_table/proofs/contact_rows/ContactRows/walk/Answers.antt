@@ -11,7 +11,7 @@ use Rattle.retry_table.specs.Turns.{as_said, group_of, said_at, shown, turned, t
 use Rattle.std.specs.List.{position_from}
 use Rattle.std.proofs.Common.{drop}
 use Rattle.retry_table.proofs.Said.{said_length, sought_found, sought_none}
-use Rattle.retry_table.proofs.contact_rows.ContactRows.next_sought.Goals as goal
+use Rattle.retry_table.proofs.contact_rows.ContactRows.walk.Goals as goal
 
 pub returns-then-is_sought-clause-first : goal.returns-then-is_sought-clause-first
 returns-then-is_sought-clause-first c =

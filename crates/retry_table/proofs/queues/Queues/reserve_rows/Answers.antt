@@ -3,10 +3,11 @@ use Rattle.std.proofs.lemmas.List.{take_all}
 use Rattle.retry_table.specs.declared.blocks.Times.{Times}
 use Rattle.retry_table.specs.declared.blocks.Times.TheVariants as times
 use Rattle.retry_table.specs.Table.{KeptRow, no_kept}
-use Rattle.retry_table.specs.Queues.{is_awaited, AreLeast, HasPassingRows}
+use Rattle.retry_table.specs.Queues.{is_awaited, AreClasses, AreLeast, HasPassingRows}
 use Rattle.retry_table.proofs.BlockLaws.{least-places, least-rows}
 use Rattle.retry_table.proofs.Follows.{follows-places, follows-rows, longer_most}
-use Rattle.retry_table.proofs.queues.Queues.reserve.Goals as goal
+use Rattle.retry_table.proofs.SoonerQueues.{classes-rows}
+use Rattle.retry_table.proofs.queues.Queues.reserve_rows.Goals as goal
 
 abbrev owed : KeptRow → Bool
 owed kept = kept.row.owed
@@ -46,6 +47,7 @@ invariant_of-self-in_err-reserve-3 c =
       by_request = grown is_awaited q.rows.items q.asked c.reserve-2.new.self c.args.numbers f.by_request fits c.in_ok-reserve-2.ensures.ok;
       by_offer = blocks_kept times.ToOffer q.rows.items q.offers c.reserve-3.new.self f.by_offer c.in_err-reserve-3.ensures.err;
       by_debt = f.by_debt;
+      by_tries = f.by_tries;
     }
 
 pub invariant_of-self-in_err-reserve-4 : goal.invariant_of-self-in_err-reserve-4
@@ -58,6 +60,20 @@ invariant_of-self-in_err-reserve-4 c =
       by_request = grown is_awaited q.rows.items q.asked c.reserve-2.new.self c.args.numbers f.by_request fits c.in_ok-reserve-2.ensures.ok;
       by_offer = blocks_grown times.ToOffer q.rows.items q.offers c.reserve-3.new.self c.args.numbers f.by_offer fits c.in_ok-reserve-3.ensures.ok;
       by_debt = kept owed q.rows.items q.owed c.reserve-4.new.self f.by_debt c.in_err-reserve-4.ensures.err;
+      by_tries = f.by_tries;
+    }
+
+pub invariant_of-self-in_err-reserve-5 : goal.invariant_of-self-in_err-reserve-5
+invariant_of-self-in_err-reserve-5 c =
+    let q = c.self.inside in
+    let f = c.self.invariant in
+    let fits : c.args.numbers < 2 ^ 32 = omega arith in
+    record {
+      by_expiry = blocks_grown times.ToSend q.rows.items q.messages c.reserve.new.self c.args.numbers f.by_expiry fits c.in_ok-reserve.ensures.ok;
+      by_request = grown is_awaited q.rows.items q.asked c.reserve-2.new.self c.args.numbers f.by_request fits c.in_ok-reserve-2.ensures.ok;
+      by_offer = blocks_grown times.ToOffer q.rows.items q.offers c.reserve-3.new.self c.args.numbers f.by_offer fits c.in_ok-reserve-3.ensures.ok;
+      by_debt = grown owed q.rows.items q.owed c.reserve-4.new.self c.args.numbers f.by_debt fits c.in_ok-reserve-4.ensures.ok;
+      by_tries = subst (λ (rows : List KeptRow). AreClasses rows c.reserve-5.new.self) c.deref.ensures.value c.reserve-5.ensures.kept;
     }
 
 pub invariant_of-self-in_err-resize : goal.invariant_of-self-in_err-resize
@@ -71,6 +87,7 @@ invariant_of-self-in_err-resize c =
       by_request = rw same (grown is_awaited q.rows.items q.asked c.reserve-2.new.self c.args.numbers f.by_request fits c.in_ok-reserve-2.ensures.ok);
       by_offer = rw same (blocks_grown times.ToOffer q.rows.items q.offers c.reserve-3.new.self c.args.numbers f.by_offer fits c.in_ok-reserve-3.ensures.ok);
       by_debt = rw same (grown owed q.rows.items q.owed c.reserve-4.new.self c.args.numbers f.by_debt fits c.in_ok-reserve-4.ensures.ok);
+      by_tries = rw same (subst (λ (rows : List KeptRow). AreClasses rows c.reserve-5.new.self) c.deref.ensures.value c.reserve-5.ensures.kept);
     }
 
 pub invariant_of-self-2 : goal.invariant_of-self-2
@@ -88,4 +105,7 @@ invariant_of-self-2 c =
       by_request = filled is_awaited rows c.resize.new.self.items q.asked c.reserve-2.new.self c.args.numbers f.by_request fits c.in_ok-reserve-2.ensures.ok is;
       by_offer = blocks_filled times.ToOffer rows c.resize.new.self.items q.offers c.reserve-3.new.self c.args.numbers f.by_offer fits c.in_ok-reserve-3.ensures.ok is;
       by_debt = filled owed rows c.resize.new.self.items q.owed c.reserve-4.new.self c.args.numbers f.by_debt fits c.in_ok-reserve-4.ensures.ok is;
+      by_tries = subst (λ (r : List KeptRow). AreClasses r c.reserve-5.new.self) (sym is)
+          (classes-rows rows c.reserve-5.new.self c.args.numbers (subst (λ (r : List KeptRow). AreClasses r c.reserve-5.new.self) c.deref.ensures.value c.reserve-5.ensures.kept)
+          (λ tries there. let enough = c.in_ok-reserve-5.ensures.room tries there in omega (arith, enough)));
     }

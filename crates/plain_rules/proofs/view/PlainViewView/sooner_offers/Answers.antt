@@ -1,0 +1,20 @@
+-- The ids of the lines are those of the held messages.
+use Rattle.std.proofs.Common.{◌≡◌, List, take, ◌∙◌, ap, subst}
+use Rattle.sync_rules.specs.declared.entries.Entry.{Entry}
+use Rattle.sync_rules.specs.Facts.{Id, facts}
+use Rattle.plain_rules.specs.Lines.{line_ids, is_line_sooner}
+use Rattle.sync_rules.specs.Sessions.{sooner_offers_of}
+use Rattle.plain_rules.proofs.LineScans.{sooner_offers_is}
+use Rattle.plain_rules.proofs.view.PlainViewView.sooner_offers.Goals as goal
+
+pub returns : goal.returns
+returns c =
+    let shared = c.as_slice.ensures.value in
+    let lines = c.as_slice-2.ensures.value in
+    subst (λ (v : List (List Entry) × List Id). c.truncate.new.self.items ≡ sooner_offers_of (facts v.0) v.1 c.args.contact c.args.latency c.args.now) c.self.view_is
+    (c.truncate.ensures.items
+    ∙ (ap (take 1536)
+    (c.in_ok-ids.ensures
+    ∙ (ap (λ (s : List Id). line_ids (is_line_sooner (facts c.self.inside.batches.now) s c.args.contact c.args.latency c.args.now) c.as_slice-2.result.now) shared
+    ∙ ap (line_ids (is_line_sooner (facts c.self.inside.batches.now) c.self.inside.shared.items c.args.contact c.args.latency c.args.now)) lines))
+    ∙ sooner_offers_is (facts c.self.inside.batches.now) c.self.inside.shared.items c.self.inside.held.items c.args.contact c.args.latency c.args.now c.self.invariant.lines))
