@@ -324,7 +324,8 @@ class Reader:
             play_scene(self.text, words, kind == 'scene', self.before, given, self.outcome, self.adds)
         elif kind == 'unwritten':
             for call, front in enumerate(pieces_of(self.outcome.err)):
-                asks = self.outcome.status != 1
+                # faulty words and `quit` look at no file
+                asks = self.outcome.status != 1 and words != 'quit'
                 self.text.tell('try', words, Outcome(b'', self.outcome.status, front, asks=asks), 'input 78', f'failerr {call}')
         elif kind == 'refuse':
             for each in ('try', 'loaded'):
