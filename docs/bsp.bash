@@ -1,7 +1,7 @@
 # Completion for bash: `source docs/bsp.bash`, or a copy in /etc/bash_completion.d.
 _bsp() {
     local word=${COMP_WORDS[COMP_CWORD]} place=$COMP_CWORD
-    local commands='init contact group share post show inbox body tree audit say agree compact mailbox sync records try help'
+    local commands='init contact group share post show inbox body tree audit status say agree compact mailbox sync quit records try help'
     COMPREPLY=()
     if [ "$place" -eq 1 ]; then
         COMPREPLY=($(compgen -W "$commands" -- "$word"))

@@ -34,9 +34,10 @@ import sys
 
 from audits import Audited, rows as audit_rows
 from digests import group_id, message_id
+from help_texts import texts_of
 from journal import SHORT, WHOLE, frames, gathered, groups_of, respelled
 from migration import migrated
-from old_stores import NOTES, SCENES as OLD_SCENES, THREADS, adds_contact, bare, heard, held, looks_at, show_text
+from old_stores import NOTES, SCENES as OLD_SCENES, THREADS, adds_contact, bare, facts_of, heard, held, looks_at, show_text
 from run_model import BATCH, Journal, Store, VISIBLE, calls_of_clear, message_record, record_bytes
 from sharing import ALL_CLIENTS, NOTE, SCENES as SHARING_SCENES, SEEDS, THREAD, Person, agrees_at_length, agrees_at_random
 from store_file import CLOSED, OPEN, framed, header
@@ -48,6 +49,7 @@ NO_STORE, EXISTS, DAMAGED, DISK_FAULT, READ_FAULT, WRITE_FAULT = 2, 3, 5, 6, 8, 
 # read as open, by what a crash leaves of what was not synced; and with no crash
 OPENED = {'old': 4, 'new': 2, 'zero': 4, 'ones': 2, 'left': 3}
 APPEND = 4
+VERSION = texts_of('bsp')['version'].split()[1]
 # the most bytes of an output that go into one call, and the parts in which an input comes
 PIECE = 7
 
@@ -324,7 +326,8 @@ class Reader:
             play_scene(self.text, words, kind == 'scene', self.before, given, self.outcome, self.adds)
         elif kind == 'unwritten':
             for call, front in enumerate(pieces_of(self.outcome.err)):
-                asks = self.outcome.status != 1
+                # faulty words and `quit` look at no file
+                asks = self.outcome.status != 1 and words != 'quit'
                 self.text.tell('try', words, Outcome(b'', self.outcome.status, front, asks=asks), 'input 78', f'failerr {call}')
         elif kind == 'refuse':
             for each in ('try', 'loaded'):
@@ -628,6 +631,33 @@ def play_tries(text):
             hear([message_record(*message) for message in messages], messages)
 
 
+LEFT = 268435456
+ROOM = {WHOLE: 38, SHORT: 10}
+
+
+def status_text(spelled, generation, payloads):
+    """What `status` prints of a journal: a step that is left keeps its room, two for a message that is not judged and one for another
+    that is neither delivered nor invalid."""
+    facts = facts_of(payloads if spelled == SHORT else respelled(payloads, WHOLE, SHORT))
+    states = [facts.state(it) for it in facts.held]
+    end = len(framed(header(spelled, generation), payloads))
+    free = LEFT - end - ROOM[spelled] * (2 * states.count('unknown') + states.count('pending'))
+    counts = f'held {len(states)} delivered {len(facts.delivered)} sessions {facts.begun}\n'
+    return f'{counts}journal {end} free {free}\nversion {VERSION}\n'.encode()
+
+
+def play_status(text, names):
+    """The journals that commands.txt names, and one whose account tells of sessions before."""
+    text.case('the status of each journal by hand')
+    journals = [(WHOLE if name.startswith('OLD_') else SHORT, value) for name, value in names.items()
+                if value.startswith(('0100 ', '1000000000 '))]
+    account = names['ACCOUNT_GONE']
+    for spelled, value in journals + [(SHORT, account.replace('1000000000', '1000000007').replace('040000000000', '040000000700'))]:
+        payloads = [unhex(digits) for digits in value.split()]
+        text.journal(spelled, 3, payloads)
+        text.tell('try', 'status', Outcome(status_text(spelled, 3, payloads)))
+
+
 def play_audits(text):
     text.case('audits')
     for first, second, line in audit_rows():
@@ -638,8 +668,9 @@ def play_audits(text):
 
 def made():
     text = Text()
+    reader = Reader(text)
     with open(os.path.join(FOLDER, 'commands.txt')) as lines:
-        Reader(text).read(lines.read().split('\n'))
+        reader.read(lines.read().split('\n'))
     play_begun_twice(text)
     play_sharing(text)
     play_old(text)
@@ -649,6 +680,7 @@ def made():
     play_cascade(text)
     play_tries(text)
     play_audits(text)
+    play_status(text, reader.names)
     return text
 
 

@@ -87,6 +87,8 @@ def source_of(program):
     """The file of constants of a program."""
     out = [f'//! The texts of help of `{program}`, made from docs/{program}.1 by oracle/help_texts.py.', '']
     for words, text in texts_of(program).items():
+        if (program, words) == ('bsp', 'version'):  # it stands in sync_words
+            continue
         what = {'': 'What commands there are.', 'version': 'The version.'}.get(words, f'What `{words}` does.')
         escaped = text.replace('\\', '\\\\').replace('"', '\\"')
         head, told = f'pub const {constant(words)}: &str =', f'"{escaped}";'

@@ -1,4 +1,4 @@
-//! The words of the command line, for the programs of this repository.
+//! The words of the command line, for the programs of this repository, and of what else comes as bytes.
 #![tactic(auto)]
 
 ghost use Rattle.std.specs.Prelude.{◌<◌, length, IfOk};
@@ -31,7 +31,9 @@ pub fn words<R: Env>(rt: &R, alloc: Global) -> Result<Vec<String>, AllocError> {
     Ok(words)
 }
 
-fn word(alloc: Global, bytes: &[u8]) -> Result<String, AllocError>
+/// The word that these bytes are handed on as: themselves, where they are text, and else a word that
+/// is wrong wherever it stands. It fails only for want of memory.
+pub fn word(alloc: Global, bytes: &[u8]) -> Result<String, AllocError>
     ensures { IfOk result (λ word. IsWordOf bytes.now (string_bytes word)) }
 {
     match str::from_utf8(bytes) {

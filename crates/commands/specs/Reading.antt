@@ -182,6 +182,8 @@ plain_in word =
     else if bytes_eq word (codes "contact") then Some command.Contact
     else if bytes_eq word (codes "show") then Some command.Show
     else if bytes_eq word (codes "audit") then Some command.Audit
+    else if bytes_eq word (codes "status") then Some command.Status
+    else if bytes_eq word (codes "quit") then Some command.Quit
     else if bytes_eq word (codes "compact") then Some command.Compact
     else None
 

@@ -15,6 +15,8 @@ may_write (command.InboxFrom from count) = false
 may_write (command.Body id) = false
 may_write (command.Tree group from count) = false
 may_write command.Audit = false
+may_write command.Status = false
+may_write command.Quit = false
 may_write _ = true
 
 -- those that write a message, whose body is their input
@@ -22,8 +24,10 @@ abbrev pub reads_body : Command → Bool
 reads_body (command.Post group timestamp) = true
 reads_body _ = false
 
--- those that are about a store; the others are about a stream alone
+-- those that are about a store; the others are about a stream alone, or ask a node that serves to
+-- end
 abbrev pub uses_store : Command → Bool
 uses_store (command.Try name descriptor) = false
 uses_store command.Records = false
+uses_store command.Quit = false
 uses_store _ = true

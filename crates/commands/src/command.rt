@@ -43,6 +43,11 @@ pub enum Command {
     /// `agree CONTACT GROUP`: sets the levels of the groups on which this device and a contact agree
     /// in a sharing group.
     Agree(u8, GroupId),
+    /// `status`: prints how many messages and sessions a store has, what its journal takes and what is
+    /// left, and the version of the program.
+    Status,
+    /// `quit`: ends a node that serves, which alone can be asked for it.
+    Quit,
     /// `compact`: writes the journal anew as its brief account.
     Compact,
     /// `mailbox in CONTACT`: takes the records of the input, a file from a contact.
@@ -86,7 +91,9 @@ impl Command {
             | Command::InboxFrom(_, _)
             | Command::Body(_)
             | Command::Tree(_, _, _)
-            | Command::Audit => false,
+            | Command::Audit
+            | Command::Status
+            | Command::Quit => false,
         }
     }
 }

@@ -81,6 +81,8 @@ fn plain(word: &str) -> Option<Command>
         "contact" => Some(Command::Contact),
         "show" => Some(Command::Show),
         "audit" => Some(Command::Audit),
+        "status" => Some(Command::Status),
+        "quit" => Some(Command::Quit),
         "compact" => Some(Command::Compact),
         _ => None,
     }

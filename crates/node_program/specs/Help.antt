@@ -9,21 +9,21 @@ use Rattle.outside.specs.Streams.{GetsFront, IsIdle, Stream}
 use Rattle.sync_words.specs.declared.outcome.Outcome.TheVariants as outcome
 use Rattle.sync_words.specs.declared.status.Status.{Status}
 use Rattle.sync_words.specs.declared.status.Status.TheVariants as status
+use Rattle.sync_words.specs.Versions.{version_text}
 use Rattle.sync_top.specs.Run.{ReportsOutcome}
 use Rattle.node_program.specs.declared.help.Help.{Help}
 use Rattle.node_program.specs.declared.help.Help.TheVariants as help
 use Rattle.node_program.specs.declared.help.Topic.{Topic}
 use Rattle.node_program.specs.declared.help.Topic.TheVariants as topic
-use Rattle.node_program.specs.declared.texts.TheConstants.{OVERVIEW, VERSION, INIT, CONTACT, GROUP}
+use Rattle.node_program.specs.declared.texts.TheConstants.{OVERVIEW, INIT, CONTACT, GROUP, STATUS}
 use Rattle.node_program.specs.declared.texts.TheConstants.{SHARE, POST, SHOW, INBOX, BODY, TREE}
 use Rattle.node_program.specs.declared.texts.TheConstants.{AUDIT, SAY, AGREE, COMPACT, MAILBOX}
 use Rattle.node_program.specs.declared.texts.TheConstants.{MAILBOX_IN, MAILBOX_OUT, SYNC, RECORDS}
-use Rattle.node_program.specs.declared.texts.TheConstants.{TRY}
+use Rattle.node_program.specs.declared.texts.TheConstants.{QUIT, TRY}
 
 -- what the program tells of a topic
 abbrev pub text_of : Topic → List ℕ
 text_of topic.Overview = OVERVIEW.now
-text_of topic.Version = VERSION.now
 text_of topic.Init = INIT.now
 text_of topic.Contact = CONTACT.now
 text_of topic.Group = GROUP.now
@@ -34,6 +34,7 @@ text_of topic.Inbox = INBOX.now
 text_of topic.Body = BODY.now
 text_of topic.Tree = TREE.now
 text_of topic.Audit = AUDIT.now
+text_of topic.Status = STATUS.now
 text_of topic.Say = SAY.now
 text_of topic.Agree = AGREE.now
 text_of topic.Compact = COMPACT.now
@@ -41,6 +42,7 @@ text_of topic.Mailbox = MAILBOX.now
 text_of topic.MailboxIn = MAILBOX_IN.now
 text_of topic.MailboxOut = MAILBOX_OUT.now
 text_of topic.Sync = SYNC.now
+text_of topic.Quit = QUIT.now
 text_of topic.Records = RECORDS.now
 text_of topic.Try = TRY.now
 
@@ -57,11 +59,13 @@ topic_in name =
     else if bytes_eq name (codes "body") then Some topic.Body
     else if bytes_eq name (codes "tree") then Some topic.Tree
     else if bytes_eq name (codes "audit") then Some topic.Audit
+    else if bytes_eq name (codes "status") then Some topic.Status
     else if bytes_eq name (codes "say") then Some topic.Say
     else if bytes_eq name (codes "agree") then Some topic.Agree
     else if bytes_eq name (codes "compact") then Some topic.Compact
     else if bytes_eq name (codes "mailbox") then Some topic.Mailbox
     else if bytes_eq name (codes "sync") then Some topic.Sync
+    else if bytes_eq name (codes "quit") then Some topic.Quit
     else if bytes_eq name (codes "records") then Some topic.Records
     else if bytes_eq name (codes "try") then Some topic.Try
     else None
@@ -90,9 +94,9 @@ abbrev pub asks_topic : List (List ℕ) → Help
 asks_topic [] = help.Tell topic.Overview
 asks_topic (word ∷ words) = named_topic (topic_in word) words
 
--- to be told of it where no word follows
-abbrev pub is_alone : Topic → List (List ℕ) → Option Help
-is_alone asked [] = Some (help.Tell asked)
+-- this is asked where no word follows
+abbrev pub is_alone : Help → List (List ℕ) → Option Help
+is_alone asked [] = Some asked
 is_alone asked (word ∷ words) = None
 
 -- what is asked, if the words ask of the program itself
@@ -100,9 +104,9 @@ abbrev pub asks_help : List (List ℕ) → Option Help
 asks_help [] = None
 asks_help (word ∷ words) =
     if bytes_eq word (codes "help") then Some (asks_topic words)
-    else if bytes_eq word (codes "--help") then is_alone topic.Overview words
-    else if bytes_eq word (codes "-h") then is_alone topic.Overview words
-    else if bytes_eq word (codes "--version") then is_alone topic.Version words
+    else if bytes_eq word (codes "--help") then is_alone (help.Tell topic.Overview) words
+    else if bytes_eq word (codes "-h") then is_alone (help.Tell topic.Overview) words
+    else if bytes_eq word (codes "--version") then is_alone help.Version words
     else None
 
 abbrev pub is_nothing : Option Topic → Bool
@@ -122,10 +126,12 @@ TellsText text out out' err err' given =
     ⊎ (GetsFront out out' text × CountRose out.faults out'.faults
     × ReportsOutcome outcome.WriteFault err err' given)
 
--- what was asked is told on the output; what is not there is a wrong word, on the error output
+-- what was asked is told on the output, the version behind the name of the program; what is not there is a wrong word, on the error output
 -- alone
 abbrev pub AnswersHelp : Help → (out out' err err' : Stream) → Status → Type 0
 AnswersHelp (help.Tell asked) out out' err err' given =
     TellsText (text_of asked) out out' err err' given
+AnswersHelp help.Version out out' err err' given =
+    TellsText (version_text (codes "bsp")) out out' err err' given
 AnswersHelp (help.Wrong place) out out' err err' given =
     IsIdle out out' × ReportsOutcome (outcome.Usage place) err err' given

@@ -1,20 +1,20 @@
 //! What the words of a command line ask of the program itself, and its answers.
 ghost use Rattle.std.specs.Prelude.{◌≡◌};
-ghost use Rattle.node_program.specs.Help.{AnswersHelp, asks_help, asks_topic, begins_nothing};
-ghost use Rattle.node_program.specs.Help.{ends_topic, is_alone, mailbox_topic, text_of, topic_in};
+ghost use Rattle.node_program.specs.Help.{AnswersHelp, TellsText, asks_help, asks_topic};
+ghost use Rattle.node_program.specs.Help.{begins_nothing, ends_topic, is_alone, mailbox_topic};
+ghost use Rattle.node_program.specs.Help.{text_of, topic_in};
 ghost use Rattle.sync_words.specs.Words.{texts};
 
 use crate::texts;
 use outside::{Sink, write_text};
 use sync_top::{Outcome, Status, report};
+use sync_words::version_line;
 
 /// What help is about.
 #[derive(Clone, Copy)]
 pub enum Topic {
     /// What commands there are.
     Overview,
-    /// The version of the program.
-    Version,
     /// `init`.
     Init,
     /// `contact`.
@@ -35,6 +35,8 @@ pub enum Topic {
     Tree,
     /// `audit`.
     Audit,
+    /// `status`.
+    Status,
     /// `say`.
     Say,
     /// `agree`.
@@ -49,6 +51,8 @@ pub enum Topic {
     MailboxOut,
     /// `sync`.
     Sync,
+    /// `quit`.
+    Quit,
     /// `records`.
     Records,
     /// `try`.
@@ -62,7 +66,6 @@ impl Topic {
     {
         match self {
             Topic::Overview => texts::OVERVIEW,
-            Topic::Version => texts::VERSION,
             Topic::Init => texts::INIT,
             Topic::Contact => texts::CONTACT,
             Topic::Group => texts::GROUP,
@@ -73,6 +76,7 @@ impl Topic {
             Topic::Body => texts::BODY,
             Topic::Tree => texts::TREE,
             Topic::Audit => texts::AUDIT,
+            Topic::Status => texts::STATUS,
             Topic::Say => texts::SAY,
             Topic::Agree => texts::AGREE,
             Topic::Compact => texts::COMPACT,
@@ -80,6 +84,7 @@ impl Topic {
             Topic::MailboxIn => texts::MAILBOX_IN,
             Topic::MailboxOut => texts::MAILBOX_OUT,
             Topic::Sync => texts::SYNC,
+            Topic::Quit => texts::QUIT,
             Topic::Records => texts::RECORDS,
             Topic::Try => texts::TRY,
         }
@@ -91,6 +96,8 @@ impl Topic {
 pub enum Help {
     /// To be told of this.
     Tell(Topic),
+    /// To be told the version of the program.
+    Version,
     /// Something that is not there: the place of the first wrong word.
     Wrong(usize),
 }
@@ -104,21 +111,17 @@ pub fn help_asked(words: &[String]) -> Option<Help>
     };
     match word.as_str() {
         "help" => Some(topic_asked(rest)),
-        "--help" | "-h" => alone(Topic::Overview, rest),
-        "--version" => alone(Topic::Version, rest),
+        "--help" | "-h" => alone(Help::Tell(Topic::Overview), rest),
+        "--version" => alone(Help::Version, rest),
         _ => None,
     }
 }
 
-// To be told of this, where no word follows.
-fn alone(topic: Topic, words: &[String]) -> Option<Help>
-    ensures { result ≡ is_alone topic (texts words.now) }
+// This is asked, where no word follows.
+fn alone(asked: Help, words: &[String]) -> Option<Help>
+    ensures { result ≡ is_alone asked (texts words.now) }
 {
-    if words.is_empty() {
-        Some(Help::Tell(topic))
-    } else {
-        None
-    }
+    if words.is_empty() { Some(asked) } else { None }
 }
 
 // What the words behind `help` ask.
@@ -150,11 +153,13 @@ fn topic_named(name: &str) -> Option<Topic>
         "body" => Some(Topic::Body),
         "tree" => Some(Topic::Tree),
         "audit" => Some(Topic::Audit),
+        "status" => Some(Topic::Status),
         "say" => Some(Topic::Say),
         "agree" => Some(Topic::Agree),
         "compact" => Some(Topic::Compact),
         "mailbox" => Some(Topic::Mailbox),
         "sync" => Some(Topic::Sync),
+        "quit" => Some(Topic::Quit),
         "records" => Some(Topic::Records),
         "try" => Some(Topic::Try),
         _ => None,
@@ -193,10 +198,19 @@ pub fn answer<O: Sink, E: Sink>(asked: Help, out: &mut O, err: &mut E) -> Status
 {
     match asked {
         Help::Wrong(place) => report(&Outcome::Usage(place), err),
-        Help::Tell(topic) => match write_text(out, topic.text()) {
-            Ok(()) => Status::Done,
-            Err(_) => report(&Outcome::WriteFault, err),
-        },
+        Help::Version => tell(version_line("bsp").as_str(), out, err),
+        Help::Tell(topic) => tell(topic.text(), out, err),
+    }
+}
+
+// Tells a text on the output.
+fn tell<O: Sink, E: Sink>(text: &str, out: &mut O, err: &mut E) -> Status
+    ensures { TellsText text.now (O.tells out.old) (O.tells out.new) (E.tells err.old)
+        (E.tells err.new) result }
+{
+    match write_text(out, text) {
+        Ok(()) => Status::Done,
+        Err(_) => report(&Outcome::WriteFault, err),
     }
 }
 

@@ -15,7 +15,7 @@ pub fn need_of(command: &Command) -> Need
     ensures touches { touches result ≡ uses_store command.now }
 {
     match command {
-        Command::Try(_, _) | Command::Records => Need::Nothing,
+        Command::Try(_, _) | Command::Records | Command::Quit => Need::Nothing,
         Command::Init => Need::Make,
         Command::Sync(_, _, _) => Need::Stay,
         _ if command.may_write() => Need::Write,

@@ -13,22 +13,20 @@ pub const OVERVIEW: &str = "bsp - keep groups of messages and exchange them with
   bsp body ID
   bsp tree GROUP FROM COUNT
   bsp audit
+  bsp status
   bsp say GROUP TIME STANCE NAME MAJOR DESCRIPTOR
   bsp agree CONTACT GROUP
   bsp compact
   bsp mailbox in CONTACT <FILE
   bsp mailbox out CONTACT LATENCY COUNT >FILE
   bsp sync TURNS QUIET CONTACT MODE LATENCY SPEC [CONTACT MODE LATENCY SPEC ...]
+  bsp quit
   bsp records <STREAM
   bsp try NAME DESCRIPTOR <STREAM
   bsp help [COMMAND]
   bsp --version
 
 `bsp help COMMAND` tells of a command; the manual page bsp(1) has the rest.
-";
-
-/// The version.
-pub const VERSION: &str = "bsp 0.4.0
 ";
 
 /// What `init` does.
@@ -113,6 +111,16 @@ runs it on a backup, after a crash, or before trusting a store that somebody
 handed over.
 ";
 
+/// What `status` does.
+pub const STATUS: &str = "bsp status
+
+Prints how many messages are held and delivered, and how many sessions have
+begun; where the journal ends, in bytes, and how many a batch may still take
+behind it, with its frame, when the room that settling may need is kept; and
+the version of the program. The journal is told of as it stands, so one sees a
+full store coming.
+";
+
 /// What `say` does.
 pub const SAY: &str = "bsp say GROUP TIME STANCE NAME MAJOR DESCRIPTOR
 
@@ -170,6 +178,12 @@ the other end; what had no answer in twice that time is sent or offered again.
 SPEC is `std` (the standard streams), `tcp:HOST:PORT`, `listen:HOST:PORT`,
 `unix:PATH` or `unixlisten:PATH`. A line for each link tells on the error
 output how it ended.
+";
+
+/// What `quit` does.
+pub const QUIT: &str = "bsp quit
+
+Ends a node that serves. None does by itself, so it is refused.
 ";
 
 /// What `records` does.

@@ -21,6 +21,7 @@ use Rattle.store_commands.specs.Post.{HasPosted}
 use Rattle.store_commands.specs.Shown.{body_shown, listing_shown}
 use Rattle.tree_commands.specs.Trees.{tree_shown}
 use Rattle.audit_commands.specs.Audits.{HasAudited}
+use Rattle.status_commands.specs.Statuses.{HasToldStatus}
 use Rattle.sharing_commands.specs.declared.saying.Speech.{Speech}
 use Rattle.sharing_commands.specs.Agreeing.{HasAgreed}
 use Rattle.sharing_commands.specs.Sayings.{say_plan}
@@ -28,12 +29,13 @@ use Rattle.mailbox_commands.specs.declared.sending.Sending.{Sending}
 use Rattle.mailbox_commands.specs.Sending.{HasSentMail}
 use Rattle.mailbox_commands.specs.Taking.{HasTakenMail}
 
--- a command of a store that a node does which holds it: not one that uses none, and no run of
--- sessions, which would want the store for itself
+-- a command of a store that a node does which holds it: not one that uses none, no run of sessions,
+-- which would want the store for itself, and not `quit`, which ends the node
 abbrev pub is_done_by_node : Command → Bool
 is_done_by_node (command.Try name descriptor) = false
 is_done_by_node command.Records = false
 is_done_by_node (command.Sync turns quiet links) = false
+is_done_by_node command.Quit = false
 is_done_by_node _ = true
 
 -- the group that words describe
@@ -81,6 +83,8 @@ DoesRequest clients (command.Tree group from count) old new input input' out out
     × IsIdle input input'
 DoesRequest clients command.Audit old new input input' out out' came =
     HasAudited clients old new out out' came × IsIdle input input'
+DoesRequest clients command.Status old new input input' out out' came =
+    HasToldStatus clients old new out out' came × IsIdle input input'
 DoesRequest clients (command.Say group timestamp join name major descriptor) old new input input'
     out out' came =
     HasAdded clients

@@ -11,6 +11,7 @@ use commands::Command;
 use mailbox_commands::{Sending, send_mail_loaded, take_mail_loaded};
 use outside::{Host, Sink, Source};
 use sharing_commands::agree_loaded;
+use status_commands::print_status_loaded;
 use std::alloc::Global;
 use store_commands::{
     Listing, add_contact_loaded, compact_loaded, list_loaded, post_loaded, set_level_loaded,
@@ -22,8 +23,8 @@ use sync_words::Outcome;
 use tree_commands::{Window, print_tree_loaded};
 
 /// Does what a command asks for over a store that is served, as by itself over its files as they
-/// stand: `init` finds the store. The words of `try` and `records` use no store, and a run of
-/// sessions would want it for itself: they are not done here. After each outcome but `DiskFault` the
+/// stand: `init` finds the store. The words of `try` and `records` use no store, a run of sessions
+/// would want it for itself, and `quit` ends the node: they are not done here. After each outcome but `DiskFault` the
 /// store may be used again; after `Memory` it is to be settled first.
 pub fn obey<H: Host, S: Source, W: Sink, C: Clients>(
     alloc: Global,
@@ -88,6 +89,9 @@ pub fn obey<H: Host, S: Source, W: Sink, C: Clients>(
             };
             send_mail_loaded(alloc, store, sending, host, out, clients)
         }
-        Command::Try(_, _) | Command::Records | Command::Sync(_, _, _) => unreachable!(),
+        Command::Status => print_status_loaded(alloc, store, host, out),
+        Command::Try(_, _) | Command::Records | Command::Sync(_, _, _) | Command::Quit => {
+            unreachable!()
+        }
     }
 }

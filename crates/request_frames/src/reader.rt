@@ -259,6 +259,16 @@ impl Reader {
         }
     }
 
+    /// How many bytes of the input were asked for at most, inside it or behind it.
+    pub fn asked(&self) -> Option<usize>
+        ensures { result ≡ asked_at self.now.at }
+    {
+        match self.at {
+            Stage::Input(_, most, _) | Stage::Whole(_, most) => Some(most),
+            Stage::Head | Stage::Words(_) | Stage::Asked(_) | Stage::Fault => None,
+        }
+    }
+
     /// How the stream ends, if nothing more comes. It takes no memory.
     pub fn end(&self) -> Ending
         requires { Awaits self.now }

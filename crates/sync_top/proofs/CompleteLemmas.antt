@@ -43,6 +43,7 @@ use Rattle.store_commands.specs.Stopping.{InputStops, NeverReads, StopsEarly}
 use Rattle.store_commands.specs.Shown.{Showing}
 use Rattle.audit_commands.specs.Audits.{HasAudited}
 use Rattle.audit_commands.specs.Texts.{legal_text}
+use Rattle.status_commands.specs.Statuses.{HasToldStatus}
 use Rattle.sync_node.specs.Courses.{ReadsAs}
 use Rattle.sharing_commands.specs.Agreeing.{HasAgreed, agreement}
 use Rattle.sharing_commands.specs.Agreement.{agree_test}
@@ -389,6 +390,13 @@ module _ (clients : Meaning) (old new : Outside) (input input' out out' : Stream
     | inr reported ↦ printed_done (legal_text reported.report) came reported.printed
   ]
 
+  status_done : (came : Outcome) → HasToldStatus clients old new out out' came
+      → MayAudit clients old.files → Done came
+  status_done came did may = elim did.did [
+    | inl early ↦ unread_done (λ f. None) came may.of early may.stood refl
+    | inr told ↦ printed_done told.text came told.printed
+  ]
+
   body_done : (group : Id) (timestamp : ℕ) (came : Outcome)
       → PostsBody clients group timestamp old new input input' out out' came
       → MayPost clients group timestamp old.files input input' → Done came
@@ -443,6 +451,7 @@ module _ (clients : Meaning) (old new : Outside) (input input' out out' : Stream
   duty_comes_out (command.Body id) came did serves = looked_done _ came did.0 serves
   duty_comes_out (command.Tree group from count) came did serves = looked_done _ came did.0 serves
   duty_comes_out command.Audit came did serves = audited_done came did.0 serves
+  duty_comes_out command.Status came did serves = status_done came did.0 serves
   duty_comes_out (command.Say group timestamp join name major descriptor) came did serves =
       added_done _ _ came did.0 serves
   duty_comes_out (command.Agree contact group) came did serves =
@@ -472,6 +481,8 @@ command_comes_out clients (command.Try name descriptor) old new input input' out
     comes fails.source fails.sink
 command_comes_out clients command.Records old new input input' out out' came comes serves fails =
     streams_decide input input' out out' came _ comes fails.source fails.sink
+command_comes_out clients command.Quit old new input input' out out' came comes serves fails =
+    absurd serves
 command_comes_out clients asked old new input input' out out' came (inl did) serves fails =
     duty_comes_out clients old new input input' out out' fails asked came did serves
 command_comes_out clients asked old new input input' out out' came (inr none) serves fails =

@@ -14,6 +14,7 @@ use Rattle.store_commands.specs.Shown.{Showing, body_shown, listing_shown}
 use Rattle.store_commands.specs.declared.listing.Listing.TheVariants as listing
 use Rattle.tree_commands.specs.Trees.{tree_shown}
 use Rattle.audit_commands.specs.Audits.{HasAudited}
+use Rattle.status_commands.specs.Statuses.{HasToldStatus}
 use Rattle.sync_top.specs.Looking.{LooksUnless, OnlyLooks}
 use Rattle.sync_top.specs.Run.{WordsComeTo, ComesOfStore, KeepsHost}
 
@@ -40,6 +41,18 @@ module _ (clients : Meaning) (old new : Outside) (input input' out out' : Stream
   audited (inl did) =
       record { run = did.0.run; moments = λ two told. (did.0.rests two told).moments }
   audited (inr none) =
+      record { run = none.1.run; moments = λ two told. (none.1.rests two told).moments }
+
+  told : ComesOfStore (λ did. HasToldStatus clients old new out out' did × IsIdle input input')
+      old new input input' out out' came → OnlyLooks old new
+  told (inl did) = record {
+    run = did.0.run;
+    moments = λ two told. elim did.0.did [
+      | inl early ↦ (early.told two told).rests.moments
+      | inr printed ↦ (printed.told two told).rests.moments
+    ];
+  }
+  told (inr none) =
       record { run = none.1.run; moments = λ two told. (none.1.rests two told).moments }
 
 module _ {H : Type 0} (tells : H → Outside) (clients : Meaning) (h h' : H)
@@ -69,4 +82,7 @@ module _ {H : Type 0} (tells : H → Outside) (clients : Meaning) (h h' : H)
       (tree_shown clients (record { group = group; from = from; count = count })) comes
   only_looks (Do command.Audit) comes keeps =
       λ reads. audited clients (tells h) (tells h') input input' out out' came comes
+  only_looks (Do command.Status) comes keeps =
+      λ reads. told clients (tells h) (tells h') input input' out out' came comes
+  only_looks (Do command.Quit) comes keeps = λ reads. kept keeps
   only_looks (Do _) comes keeps = λ reads. absurd (let e : true ≡ false = reads in cc)

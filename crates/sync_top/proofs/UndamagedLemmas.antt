@@ -30,6 +30,7 @@ use Rattle.store_commands.specs.Stopping.{StoodFor, StopsEarly}
 use Rattle.store_commands.specs.Shown.{Showing}
 use Rattle.store_commands.specs.Works.{DoesWork, HasWorked, Work}
 use Rattle.audit_commands.specs.Audits.{HasAudited}
+use Rattle.status_commands.specs.Statuses.{HasToldStatus}
 use Rattle.mailbox_commands.specs.declared.sending.Sending.{Sending}
 use Rattle.mailbox_commands.specs.Sending.{HasSentMail}
 use Rattle.mailbox_commands.specs.Taking.{HasTakenMail}
@@ -100,6 +101,13 @@ module _ (clients : Meaning) (old new : Outside) where
   of_audited : (out out' : Stream) (came : Outcome) → HasAudited clients old new out out' came
       → Undamaged clients old new
   of_audited out out' came did = of_now (λ two files. (did.rests two files).moments)
+
+  of_told : (out out' : Stream) (came : Outcome)
+      → HasToldStatus clients old new out out' came → Undamaged clients old new
+  of_told out out' came did = of_now (λ two files. elim did.did [
+    | inl early ↦ (early.told two files).rests.moments
+    | inr printed ↦ (printed.told two files).rests.moments
+  ])
 
   did_moment : (P : List (List Entry) → Type 0) (sent : List (List ℕ)) (two : Two File)
       → ((left : Two (List ℕ)) → IsImage two left → StandsForJournal clients left)
@@ -206,6 +214,7 @@ module _ (clients : Meaning) (old new : Outside) where
   of_duty (command.Tree group from count) input input' out out' came other did =
       of_looked _ out out' came did.0
   of_duty command.Audit input input' out out' came other did = of_audited out out' came did.0
+  of_duty command.Status input input' out out' came other did = of_told out out' came did.0
   of_duty (command.Say group timestamp join name major descriptor) input input' out out' came other
       did = of_worked _ _ out out' came did.0
   of_duty (command.Agree contact group) input input' out out' came other did =
@@ -238,6 +247,7 @@ module _ {H : Type 0} (tells : H → Outside) (clients : Meaning) (h h' : H)
   undamaged (Usage place) comes keeps covered told = kept keeps
   undamaged (Do (command.Try name descriptor)) comes keeps covered told = kept keeps
   undamaged (Do command.Records) comes keeps covered told = kept keeps
+  undamaged (Do command.Quit) comes keeps covered told = kept keeps
   undamaged (Do (command.Sync turns quiet links)) comes keeps covered told =
       of_run clients (tells h) (tells h') links covered (told tt)
   undamaged (Do asked) comes keeps covered told =

@@ -24,6 +24,7 @@ use Rattle.store_commands.specs.Looking.{HasLooked}
 use Rattle.store_commands.specs.Shown.{Showing, body_shown, listing_shown}
 use Rattle.tree_commands.specs.Trees.{tree_shown}
 use Rattle.audit_commands.specs.Audits.{HasAudited}
+use Rattle.status_commands.specs.Statuses.{HasToldStatus}
 use Rattle.sharing_commands.specs.declared.saying.Speech.{Speech}
 use Rattle.sharing_commands.specs.Agreeing.{HasAgreed, agreement}
 use Rattle.sharing_commands.specs.Agreement.{agree_test}
@@ -110,7 +111,7 @@ to_run clients limits links = record {
   serves = λ old new input input'. MaySync clients limits links old new;
 }
 
--- by the command; `try` and `records` are about no store
+-- by the command; `try`, `records` and `quit` are about no store
 abbrev pub duty_of : Meaning → Command → Duty
 duty_of clients command.Init = unread HasBegun HasNoHeader
 duty_of clients command.Contact = to_add clients contact_plan settling.Before
@@ -130,6 +131,7 @@ duty_of clients (command.Body id) = to_show clients (body_shown id)
 duty_of clients (command.Tree group from count) =
     to_show clients (tree_shown clients (record { group = group; from = from; count = count }))
 duty_of clients command.Audit = unread (HasAudited clients) (MayAudit clients)
+duty_of clients command.Status = unread (HasToldStatus clients) (MayAudit clients)
 duty_of clients (command.Say group timestamp join name major descriptor) =
     to_add clients
     (say_plan clients (speech_of group timestamp join (group_named name major descriptor)))

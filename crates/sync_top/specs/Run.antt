@@ -124,7 +124,8 @@ abbrev pub ComesOfStore : (Outcome → Type 0) → (old new : Outside)
 ComesOfStore did old new input input' out out' came =
     did came ⊎ ((came ≡ outcome.Memory) × DoesNothing old new input input' out out')
 
--- what the words ask for, and what it comes to; faulty words come to their place
+-- what the words ask for, and what it comes to; faulty words come to their place, and nothing serves
+-- that could end
 abbrev pub WordsComeTo : Meaning → Asked → (old new : Outside) → (input input' out out' : Stream)
     → Outcome → Type 0
 WordsComeTo clients (Usage place) old new input input' out out' came =
@@ -133,6 +134,8 @@ WordsComeTo clients (Do (command.Try name descriptor)) old new input input' out 
     TriesClient clients name descriptor (clients.kind_of name 0) input input' out out' came
 WordsComeTo clients (Do command.Records) old new input input' out out' came =
     Streams (λ items text. text ≡ items_text items) input input' out out' came
+WordsComeTo clients (Do command.Quit) old new input input' out out' came =
+    EndsAtOnce outcome.NoNode input input' out out' came
 WordsComeTo clients (Do asked) old new input input' out out' came =
     ComesOfStore ((duty_of clients asked).comes old new input input' out out') old new input input'
     out out' came
@@ -153,6 +156,7 @@ abbrev pub KeepsHost : {H : Type 0} → Asked → H → H → Type 0
 KeepsHost (Usage place) old new = new ≡ old
 KeepsHost (Do (command.Try name descriptor)) old new = new ≡ old
 KeepsHost (Do command.Records) old new = new ≡ old
+KeepsHost (Do command.Quit) old new = new ≡ old
 KeepsHost (Do _) old new = Unit {0}
 
 -- the error output got the text of the outcome, and the status is the outcome's

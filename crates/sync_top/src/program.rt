@@ -20,6 +20,7 @@ use journal_play::play_says;
 use mailbox_commands::{Sending, send_mail, take_mail};
 use outside::{Host, Sink, Source, write_text};
 use sharing_commands::{Speech, agree, say};
+use status_commands::print_status;
 use std::alloc::Global;
 use std::hash::RandomState;
 use store_commands::{
@@ -175,6 +176,8 @@ fn obey<H: Host, S: Source, W: Sink, C: Clients>(
             print_tree(alloc, hasher, &window, host, out, clients)
         }
         Command::Audit => print_audit(alloc, host, out, clients),
+        Command::Status => print_status(alloc, hasher, host, out, clients),
+        Command::Quit => Err(Outcome::NoNode),
         Command::Say(group, timestamp, join, name, major, descriptor) => {
             let def = group_of(alloc, name.as_str(), major, descriptor.as_str())?;
             let speech = spoken(group, timestamp, join, def);

@@ -13,6 +13,17 @@ use Rattle.sync_words.specs.declared.status.Status.TheVariants as status
 abbrev pub usage_text : ℕ → List ℕ
 usage_text place = codes "usage: word " ++ (decimal place ++ 10 ∷ [])
 
+-- what came to a node is no request
+abbrev pub no_request_text : List ℕ
+no_request_text = codes "usage: no request\n"
+
+-- what a node can't do, since it holds the store; and what only a node that serves can do
+abbrev pub node_holds_text : List ℕ
+node_holds_text = codes "refused: a node holds the store\n"
+
+abbrev pub no_node_text : List ℕ
+no_node_text = codes "refused: no node serves\n"
+
 -- why a command is refused, in words
 abbrev pub refusal : Refused → List ℕ
 refusal refused.UnknownClient = codes "unknown client"

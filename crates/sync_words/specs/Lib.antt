@@ -1,6 +1,7 @@
 pub mod Words
 pub mod Links
 pub mod Texts
+pub mod Versions
 pub mod StreamTexts
 pub mod EntryTexts
 pub mod HeldTexts

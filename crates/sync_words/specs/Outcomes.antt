@@ -4,7 +4,8 @@ use Rattle.sync_course.specs.Closing.{Closing}
 use Rattle.sync_course.specs.declared.ends.LinkEnd.{LinkEnd}
 use Rattle.sync_course.specs.declared.ends.LinkEnd.TheVariants as end
 use Rattle.sync_words.specs.ErrorTexts.{bad_record_text, damaged_text, inside_text, link_text}
-use Rattle.sync_words.specs.ErrorTexts.{no_version_text, plain_text, refused_text, script_text}
+use Rattle.sync_words.specs.ErrorTexts.{no_node_text, no_request_text, no_version_text}
+use Rattle.sync_words.specs.ErrorTexts.{node_holds_text, plain_text, refused_text, script_text}
 use Rattle.sync_words.specs.ErrorTexts.{usage_text}
 use Rattle.sync_words.specs.declared.outcome.Outcome.{Outcome}
 use Rattle.sync_words.specs.declared.outcome.Outcome.TheVariants as outcome
@@ -52,9 +53,12 @@ links_text closed = ends_text 0 closed.over closed.ends
 abbrev pub status_of : Outcome → Status
 status_of outcome.Done = status.Done
 status_of (outcome.Usage place) = status.Usage
+status_of outcome.NoRequest = status.Usage
 status_of outcome.NoStore = status.NoStore
 status_of outcome.Exists = status.Exists
 status_of (outcome.Refused why) = status.Refused
+status_of outcome.NodeHolds = status.Refused
+status_of outcome.NoNode = status.Refused
 status_of (outcome.Damaged place) = status.Damaged
 status_of outcome.DiskFault = status.DiskFault
 status_of (outcome.Links ends) = links_status ends
@@ -73,7 +77,10 @@ status_of (outcome.BadScript line) = status.BadScript
 -- for each link of a command that has links
 abbrev pub text_of : Outcome → List ℕ
 text_of (outcome.Usage place) = usage_text place
+text_of outcome.NoRequest = no_request_text
 text_of (outcome.Refused why) = refused_text why
+text_of outcome.NodeHolds = node_holds_text
+text_of outcome.NoNode = no_node_text
 text_of (outcome.Damaged place) = damaged_text place.file place.at
 text_of (outcome.Links ends) = links_text ends
 text_of (outcome.LinkFailed link) = link_text link false end.Failed

@@ -6,7 +6,8 @@ ghost use Rattle.std.specs.Prelude.{OnErr, OnOk, true};
 ghost use Rattle.std.specs.String.{string_bytes};
 ghost use Rattle.arrayvec.specs.ArrayString.{array_string_len};
 ghost use Rattle.sync_words.specs.ErrorTexts.{bad_record_text, damaged_text, ending_text};
-ghost use Rattle.sync_words.specs.ErrorTexts.{inside_text, is_plain, link_text, no_version_text};
+ghost use Rattle.sync_words.specs.ErrorTexts.{inside_text, is_plain, link_text, no_node_text};
+ghost use Rattle.sync_words.specs.ErrorTexts.{no_request_text, no_version_text, node_holds_text};
 ghost use Rattle.sync_words.specs.ErrorTexts.{plain_text};
 ghost use Rattle.sync_words.specs.ErrorTexts.{reason_text, refusal, refused_text, script_text};
 ghost use Rattle.sync_words.specs.ErrorTexts.{usage_text};
@@ -55,6 +56,30 @@ pub fn usage_line(n: usize, to: &mut String) -> Result<(), AllocError>
     let mut line = ErrorText::new();
     add_usage(n, &mut line);
     to.push_str(line.as_str())
+}
+
+/// Adds the line of what is no request.
+pub(crate) fn add_no_request(to: &mut ErrorText)
+    requires { array_string_len to.old ≤ 900 }
+    ensures { AddsLine to.old to.new no_request_text }
+{
+    to.push_str("usage: no request\n");
+}
+
+/// Adds the line of a command that a node can't do, since it holds the store.
+pub(crate) fn add_node_holds(to: &mut ErrorText)
+    requires { array_string_len to.old ≤ 900 }
+    ensures { AddsLine to.old to.new node_holds_text }
+{
+    to.push_str("refused: a node holds the store\n");
+}
+
+/// Adds the line of what only a node that serves can do.
+pub(crate) fn add_no_node(to: &mut ErrorText)
+    requires { array_string_len to.old ≤ 900 }
+    ensures { AddsLine to.old to.new no_node_text }
+{
+    to.push_str("refused: no node serves\n");
 }
 
 // Why a command is refused, in words.

@@ -12,6 +12,7 @@ mod reading;
 mod spec;
 mod status;
 mod stream_lines;
+mod version;
 mod word;
 
 pub use digits::add_id;
@@ -32,4 +33,5 @@ pub use reading::{id, level, mode, number, positive};
 pub use spec::{is_dialled, is_spec, is_std};
 pub use status::Status;
 pub use stream_lines::{record_line, skipped_line, try_line};
+pub use version::{VERSION, version_line};
 pub use word::Word;

@@ -3,8 +3,8 @@ ghost use Rattle.std.specs.Prelude.{◌≡◌, ◌≤◌, [], length};
 ghost use Rattle.sync_words.specs.Outcomes.{came_to, ends_text, status_of, text_of};
 
 use crate::error_lines::{
-    ErrorText, add_bad_record, add_damaged, add_inside, add_link, add_no_version, add_plain,
-    add_refused, add_script, add_usage,
+    ErrorText, add_bad_record, add_damaged, add_inside, add_link, add_no_node, add_no_request,
+    add_no_version, add_node_holds, add_plain, add_refused, add_script, add_usage,
 };
 use crate::links::LinkEnds;
 use crate::status::Status;
@@ -21,12 +21,18 @@ pub enum Outcome {
     Done,
     /// The place of the first wrong word.
     Usage(usize),
+    /// What came to a node is no request.
+    NoRequest,
     /// Neither file has an open header.
     NoStore,
     /// A file has an open header where a store was to be made.
     Exists,
     /// A test of the command failed.
     Refused(Refused),
+    /// A node holds the store, and it is the node that was asked.
+    NodeHolds,
+    /// What only a node that serves can do was asked where none does.
+    NoNode,
     /// The files stand for no journal: this place of theirs is damaged.
     Damaged(Place),
     /// A call on the disk failed.
@@ -95,10 +101,10 @@ impl Outcome {
     {
         match self {
             Outcome::Done => Status::Done,
-            Outcome::Usage(_) => Status::Usage,
+            Outcome::Usage(_) | Outcome::NoRequest => Status::Usage,
             Outcome::NoStore => Status::NoStore,
             Outcome::Exists => Status::Exists,
-            Outcome::Refused(_) => Status::Refused,
+            Outcome::Refused(_) | Outcome::NodeHolds | Outcome::NoNode => Status::Refused,
             Outcome::Damaged(_) => Status::Damaged,
             Outcome::DiskFault => Status::DiskFault,
             Outcome::Links(ends) => ends.status(),
@@ -130,9 +136,12 @@ impl Outcome {
         match self {
             Outcome::Done => {}
             Outcome::Usage(place) => add_usage(*place, to),
+            Outcome::NoRequest => add_no_request(to),
             Outcome::NoStore => add_plain(Status::NoStore, to),
             Outcome::Exists => add_plain(Status::Exists, to),
             Outcome::Refused(why) => add_refused(*why, to),
+            Outcome::NodeHolds => add_node_holds(to),
+            Outcome::NoNode => add_no_node(to),
             Outcome::Damaged(place) => add_damaged(place.file, place.at, to),
             Outcome::DiskFault => add_plain(Status::DiskFault, to),
             Outcome::Links(ends) => add_links(ends.is_over(), ends.as_slice(), to),

@@ -175,6 +175,20 @@ returns-in-Body-clause-serves g c =
     still_serves (g.C.Clients.meaning c.args.clients.now) c.args.store.now
     (g.H.Disk.tells c.args.host.now) _ c.requires.served
 
+pub returns-in-Status-clause-does : goal.returns-in-Status-clause-does
+returns-in-Status-clause-does g c =
+    as_asked (g.C.Clients.meaning c.args.clients.now) c.args.asked
+    command.Status _ _ _ _ _ _ _ c.in-Status.is (
+      c.print_status_loaded.ensures (g.C.Clients.meaning c.args.clients.now) c.args.host.now
+          c.requires.served.ready.loaded,
+      record { same = refl; same_faults = refl },
+    )
+
+pub returns-in-Status-clause-serves : goal.returns-in-Status-clause-serves
+returns-in-Status-clause-serves g c =
+    still_serves (g.C.Clients.meaning c.args.clients.now) c.args.store.now
+    (g.H.Disk.tells c.args.host.now) _ c.requires.served
+
 pub returns-in-Tree-clause-does : goal.returns-in-Tree-clause-does
 returns-in-Tree-clause-does g c =
     as_asked (g.C.Clients.meaning c.args.clients.now) c.args.asked

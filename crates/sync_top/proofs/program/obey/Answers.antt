@@ -54,6 +54,11 @@ returns-in-Audit-clause-comes g c =
     as_command (g.C.Clients.meaning c.args.clients.now) c.args.asked command.Audit _ _ _ _ _ _ _
     c.in-Audit.is (inl (c.print_audit.ensures, (record { same = refl; same_faults = refl })))
 
+pub returns-in-Status-clause-comes : goal.returns-in-Status-clause-comes
+returns-in-Status-clause-comes g c =
+    as_command (g.C.Clients.meaning c.args.clients.now) c.args.asked command.Status _ _ _ _ _ _ _
+    c.in-Status.is (inl (c.print_status.ensures, (record { same = refl; same_faults = refl })))
+
 pub returns-in-Post-clause-comes : goal.returns-in-Post-clause-comes
 returns-in-Post-clause-comes g c =
     as_command (g.C.Clients.meaning c.args.clients.now) c.args.asked

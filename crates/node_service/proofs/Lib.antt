@@ -1,0 +1,4 @@
+mod WordLemmas
+mod EarLemmas
+mod TellLemmas
+mod LifeLemmas

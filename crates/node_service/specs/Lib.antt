@@ -1,0 +1,4 @@
+pub mod Words
+pub mod Ears
+pub mod Lives
+pub mod Serving

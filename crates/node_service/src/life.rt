@@ -1,0 +1,184 @@
+// The loop of a node that serves.
+ghost use Rattle.std.specs.Prelude.{◌≡◌, ◌≤◌, ◌++◌, [], ℕ, List, Bool, OnOk};
+ghost use Rattle.outside.specs.Faults.{HasCause};
+ghost use Rattle.outside.specs.Streams.{Stream};
+ghost use Rattle.request_frames.specs.Laws.{KeepsOf};
+ghost use Rattle.request_frames.specs.Reading.{IsWhole};
+ghost use Rattle.request_frames.specs.Requests.{Request};
+ghost use Rattle.node_service.specs.Lives.{HasLived, shown_bytes, spelled_answer};
+ghost use Rattle.node_service.specs.Serving.{AnswersAlike, AnswersNext, EndsAs, TellsAnswer};
+ghost use Rattle.node_service.specs.Serving.{TellsFault, WritesText, stopped_as};
+ghost use Rattle.sync_words.specs.declared.outcome.Outcome.{Outcome};
+
+use crate::ear::{Came, Ear};
+use crate::node::{Node, Reply};
+use outside::{Failed, Host, MemSink, Sink, Source, write_all, write_text};
+use request_frames::{Ending, append_answer_line};
+use std::alloc::Global;
+use sync_words::Outcome;
+
+// What a node says first: that it is ready, and which framing it speaks.
+const GREETING: &str = "node 1\n";
+
+/// Why an answer was not told.
+#[derive(Clone, Copy, Debug, PartialEq, Eq)]
+pub(crate) enum Untold {
+    /// A write failed.
+    Failed,
+    /// No memory was found for its line; nothing was written.
+    Memory,
+}
+
+/// Why a node ends behind a request.
+#[derive(Debug, Drop)]
+pub(crate) enum Stop {
+    /// It ends with what the request came to.
+    With(Outcome),
+    /// Its answer was not told.
+    Untold(Untold),
+}
+
+// Writes three parts of a text.
+fn write_parts<W: Sink>(line: &[u8], shown: &[u8], error: &[u8], out: &mut W) -> Result<(), Failed>
+    ensures told { WritesText (line.now ++ (shown.now ++ error.now)) (W.tells out.old)
+        (W.tells out.new) result }
+    ensures cause { HasCause (W.tells out.old).faults (W.tells out.new).faults result }
+{
+    match write_all(out, line) {
+        Ok(()) => {}
+        Err(e) => return Err(e),
+    }
+    match write_all(out, shown) {
+        Ok(()) => {}
+        Err(e) => return Err(e),
+    }
+    write_all(out, error)
+}
+
+// Tells an answer: its line, what the output gets, and its line on the error output.
+fn tell<W: Sink>(alloc: Global, came: &Outcome, shown: &[u8], out: &mut W) -> Result<(), Untold>
+    ensures told { TellsAnswer (spelled_answer came.now shown.now) (W.tells out.old)
+        (W.tells out.new) result }
+{
+    let error = came.text();
+    let error = error.as_bytes();
+    let mut line = Vec::new(alloc);
+    let status = came.status().number();
+    if append_answer_line(status, shown.len(), error.len(), &mut line).is_err() {
+        return Err(Untold::Memory);
+    }
+    match write_parts(line.as_slice(), shown, error, out) {
+        Ok(()) => Ok(()),
+        Err(_) => Err(Untold::Failed),
+    }
+}
+
+// Answers the request that was heard, and tells the answer.
+fn answer_next<N: Node<H>, H: Host, W: Sink>(
+    alloc: Global,
+    ear: &Ear,
+    node: &mut N,
+    host: &mut H,
+    out: &mut W,
+) -> Result<(), Stop>
+    requires whole { IsWhole ear.now.reader.at }
+    requires may { N.may node.old host.old }
+    ensures answers { (request : Request) → request.words ≡ ear.now.reader.front
+        → KeepsOf request ear.now.reader.at ear.now.reader.kept
+        → AnswersNext (N.answers node.old) request host.old host.new (W.tells out.old)
+        (W.tells out.new) result }
+    ensures same { AnswersAlike (N.answers node.new) (N.answers node.old) }
+    ensures stays { OnOk result (N.may node.new host.new) }
+    ensures later { (W.tells out.old).faults ≤ (W.tells out.new).faults }
+{
+    let (Some(size), Some(most)) = (ear.reader.input_size(), ear.reader.asked()) else {
+        unreachable!()
+    };
+    let words = ear.reader.words();
+    let kept = ear.reader.kept();
+    let mut sink = MemSink::new(alloc, Vec::new(alloc));
+    let reply = node.answer(words, size, most, kept, host, &mut sink);
+    match tell(alloc, &reply.came, shown_of(reply.shown, &sink), out) {
+        Ok(()) => ended(reply),
+        Err(untold) => Err(Stop::Untold(untold)),
+    }
+}
+
+// What goes out of what was written to an output.
+fn shown_of(shown: bool, out: &MemSink) -> &[u8]
+    ensures { result.now ≡ shown_bytes shown out.now.bytes }
+{
+    if shown { out.bytes() } else { &[] }
+}
+
+// Whether the node ends behind a reply.
+fn ended(reply: Reply) -> Result<(), Stop>
+    ensures { EndsAs reply.ends reply.came result }
+{
+    if reply.ends {
+        Err(Stop::With(reply.came))
+    } else {
+        Ok(())
+    }
+}
+
+// What the node ends with that stopped so.
+fn stopped(stop: Stop) -> Outcome
+    ensures { result ≡ stopped_as stop }
+{
+    match stop {
+        Stop::With(came) => came,
+        Stop::Untold(Untold::Failed) => Outcome::WriteFault,
+        Stop::Untold(Untold::Memory) => Outcome::Memory,
+    }
+}
+
+// Tells that what follows is no request.
+fn tell_fault<W: Sink>(alloc: Global, out: &mut W) -> Outcome
+    ensures { TellsFault (W.tells out.old) (W.tells out.new) result }
+{
+    match tell(alloc, &Outcome::NoRequest, &[], out) {
+        Ok(()) => Outcome::NoRequest,
+        Err(Untold::Failed) => Outcome::WriteFault,
+        Err(Untold::Memory) => Outcome::Memory,
+    }
+}
+
+/// Says that the node is ready, and answers the requests of the input in their order, each before
+/// the next is looked for, until the input ends, something in it is no request, or the node ends
+/// behind one. It says what the node comes to.
+pub fn serve<N: Node<H>, H: Host, S: Source, W: Sink>(
+    alloc: Global,
+    node: &mut N,
+    host: &mut H,
+    input: &mut S,
+    out: &mut W,
+) -> Outcome
+    requires { N.may node.old host.old }
+    ensures { HasLived (N.answers node.old) host.old host.new (S.tells input.old) (S.tells input.new)
+        (W.tells out.old) (W.tells out.new) result }
+{
+    let Ok(mut ear) = Ear::new(alloc) else {
+        return Outcome::Memory;
+    };
+    match write_text(out, GREETING) {
+        Ok(()) => {}
+        Err(_) => return Outcome::WriteFault,
+    }
+    'requests: for _ in 0..u64::MAX {
+        match ear.next(alloc, input) {
+            Came::Request => match answer_next(alloc, &ear, node, host, out) {
+                Ok(()) => {}
+                Err(stop) => return stopped(stop),
+            },
+            Came::End(Ending::Fault) => return tell_fault(alloc, out),
+            Came::Fault => return tell_fault(alloc, out),
+            Came::End(Ending::Clean) => return Outcome::Done,
+            Came::End(Ending::Inside) => return Outcome::Done,
+            Came::ReadFault => return Outcome::ReadFault,
+            Came::TooMuch => return Outcome::TooMuch,
+            Came::Memory => return Outcome::Memory,
+        }
+    }
+    Outcome::TooMuch
+}
