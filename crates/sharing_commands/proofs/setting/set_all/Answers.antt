@@ -1,7 +1,9 @@
-use Rattle.std.proofs.Common.{◌≡◌, ◌+◌, [], ◌∷◌, ◌++◌, append-nil, take, sym, ap, ◌∙◌, arith}
+use Rattle.std.proofs.Common.{◌≡◌, ◌+◌, List, [], ◌∷◌, ◌++◌, Ok, append-nil, take, subst, sym, ap, ◌∙◌, arith}
 use Rattle.std.specs.String.{string_bytes}
-use Rattle.std.proofs.lemmas.List.{take_more}
+use Rattle.std.proofs.lemmas.List.{take_all, take_more}
 use Rattle.client_sharing.specs.declared.agreement.Target.{Target}
+use Rattle.sharing_commands.specs.Adding.{AddsFront}
+use Rattle.sharing_commands.specs.Deeds.{all_batches}
 use Rattle.sharing_commands.proofs.Fronts.{adds_on, nothing_added}
 use Rattle.sharing_commands.proofs.Targets.{set_more, set_stopped, text_more}
 use Rattle.sharing_commands.proofs.Standing.{known_on}
@@ -58,3 +60,12 @@ returns-in_err-set_target-clause-stands g c =
     known_on c.from_residual.result c.in_err-set_target.field-0.0 c.from_residual.ensures.1
     (g.C.Clients.meaning c.args.clients.now) c.set_target.new.store
     (g.D.Disk.tells c.set_target.new.disk) c.args.contact c.in_err-set_target.ensures.stands
+
+pub returns-clause-adds : goal.returns-clause-adds
+returns-clause-adds g c =
+    let clients = g.C.Clients.meaning c.args.clients.now in
+    let ts = c.args.targets.now in
+    subst (λ (xs : List Target). AddsFront clients c.args.store.now c.targets.store
+    (g.D.Disk.tells c.args.disk.now) (g.D.Disk.tells c.targets.disk)
+    (all_batches clients c.args.contact c.args.store.now.state.facts xs) (Ok tt))
+    (take_all c.targets.i ts (omega arith)) c.targets.invariant.adds
