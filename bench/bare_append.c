@@ -4,9 +4,9 @@
  *     bare_append FILE0 FILE1 HEADER <frames
  *     bare_append FILE0 FILE1 HEADER whole <frames
  *
- * Each file that is there is synced. Then each frame of the input (its length in four bytes, its payload, a closed gate)
- * is added at the end of FILE0, whose last byte is the closed gate: written behind it and synced, then the gate opened
- * and synced.
+ * Each file that is there is synced. Then each frame of the input (its length in four bytes, its payload, a gate) is added
+ * at the end of FILE0, whose last byte is the closed gate: written behind it and synced, then the gate opened and synced. A
+ * frame whose own gate is open in the input is written together with the next.
  *
  * With a header, in hexadecimal digits and without its gate, the journal is written anew into FILE1, which is not there: a
  * closed gate, the header behind it, the frames, and then its gate is opened. These frames are added in groups of at most
@@ -74,6 +74,15 @@ static size_t group_size(unsigned char *at, size_t left)
     return size;
 }
 
+/* The size of the frames at the front of some bytes up to the first whose own gate is closed. */
+static size_t joined_size(const unsigned char *at, size_t left)
+{
+    size_t size = frame_size(at);
+    while (size < left && at[size - 1] == open_gate)
+        size += frame_size(at + size);
+    return size;
+}
+
 /* Where the last frame of some bytes begins. */
 static size_t last_frame(const unsigned char *frames, size_t have)
 {
@@ -118,7 +127,7 @@ int main(int count, char **words)
     size_t have = read_input(frames);
     size_t end = moves && !whole ? last_frame(frames, have) : have;
     for (size_t at = 0; at + 5 < end;) {
-        size_t size = moves ? group_size(frames + at, end - at) : frame_size(frames + at);
+        size_t size = moves ? group_size(frames + at, end - at) : joined_size(frames + at, end - at);
         check(at + size <= end, "frames");
         add_at(file, gate, frames + at, size);
         gate += (off_t)size;

@@ -21,7 +21,7 @@ PYTHONDONTWRITEBYTECODE=1 PYTHONPATH=bench:oracle python3 - "$bsp" "$folder" "${
 import os, re, shutil, subprocess, sys, time
 from statistics import median
 
-from store_file import GROUP, Note, file_bytes, frame, inbox_text, show_text
+from store_file import GROUP, Note, file_bytes, inbox_text, show_text, together
 
 bsp, folder, runs = sys.argv[1], sys.argv[2], int(sys.argv[3])
 SIZE, MANY, FEW = 200, 20_000, 5_000
@@ -73,7 +73,7 @@ def post_run(count, before=()):
 
 def bare_run(count, before=()):
     put(STORE, file_bytes(NOTES[:count]))
-    frames = b''.join(frame(payload) for payload in NOTES[count].batches(count))
+    frames = together(NOTES[count].batches(count))
     used = run((*before, os.path.join(folder, 'bare_append'), STORE, OTHER), frames)
     expect(content_of(STORE) == file_bytes(NOTES[:count + 1]), 'the file after bare_append')
     return used

@@ -66,6 +66,11 @@ def frame(payload):
     return struct.pack('>I', len(payload)) + payload + CLOSED
 
 
+def together(payloads):
+    """The frames of batches that are added as one group: the gates between them are open."""
+    return OPEN.join(frame(payload)[:-1] for payload in payloads) + CLOSED
+
+
 def framed(head, payloads):
     """A file with this header and these payloads."""
     return head + b''.join(OPEN + frame(payload)[:-1] for payload in payloads) + CLOSED
