@@ -160,7 +160,7 @@ module _ (clients : Meaning) (batch : List Entry) (s s' : StoreValue)
     breaks =
         did_breaks clients s s' has.more o o' (λ j whole. IsBetween j has.more whole)
         (λ j whole. whole ≡ j ++ has.more) ready.fits has.runs.run
-      (runs_within clients s s' o o' has.more has.runs)
+        (runs_within clients s s' o o' has.more has.runs)
         has.runs.calls.appends has.runs.file has.runs.limit
         has.runs.format (λ j whole between. between) has.runs.leads ready.still_open shut rose;
   }
