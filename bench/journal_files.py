@@ -1,5 +1,5 @@
-"""Journals that are measured: notes that were heard and sent on, and messages that wait for each other. The bytes are those of
-docs/FORMATS.md."""
+"""Journals that are measured: notes that were heard and sent on, notes that were sent again, and messages that wait for each other.
+The bytes are those of docs/FORMATS.md."""
 import struct
 
 from digests import group_id, message_id
@@ -7,6 +7,7 @@ from journal import ACKS, SEND
 from store_file import GROUP, first_batches, steps
 
 AT_ONCE, LATENCY, NOW = 1_000, 1_000, 5_000
+TWO_DAYS, SLOWEST = 172_800_000, 2 ** 32 - 1
 # how many steps a batch of settling has at most
 MOST_STEPS = 256
 THREAD = group_id(b'thread', 0, b'd')
@@ -18,13 +19,13 @@ def name(number):
 
 # ---- notes
 
-def begins(session, contact):
-    return struct.pack('>BIBBIB', 4, session, contact, 1, LATENCY, 0)
+def begins(session, contact, latency=LATENCY):
+    return struct.pack('>BIBBIB', 4, session, contact, 1, latency, 0)
 
 
-def out(session, kind, numbers):
+def out(session, kind, numbers, now=NOW):
     named = b'' if kind == SEND else struct.pack('>H', len(numbers))
-    return struct.pack('>BIQB', 15, session, NOW, kind) + named + b''.join(map(name, numbers))
+    return struct.pack('>BIQB', 15, session, now, kind) + named + b''.join(map(name, numbers))
 
 
 def heard(notes, sessions):
@@ -44,6 +45,51 @@ def heard(notes, sessions):
         yield begins(2 * session + 1, 1)
         for number in part:
             yield out(2 * session + 1, SEND, [number])
+
+
+def written(notes):
+    """Notes that were written here."""
+    yield from first_batches()
+    for number, note in enumerate(notes):
+        yield from note.batches(number)
+
+
+def lost(notes):
+    """Notes that a letter of two days took to contact 0, and nobody acknowledged."""
+    yield from written(notes)
+    yield begins(0, 0, TWO_DAYS)
+    for number in range(len(notes)):
+        yield out(0, SEND, [number])
+
+
+def sooner(notes):
+    """Notes of a letter that was lost, and all of them once more at that moment over a way of a second."""
+    yield from lost(notes)
+    yield begins(1, 0)
+    for number in range(len(notes)):
+        yield out(1, SEND, [number])
+
+
+def by_turns(notes, at_once):
+    """Notes of a letter that was lost, each once more over a way of ten seconds and then over one of a second, so many in a turn."""
+    yield from lost(notes)
+    yield begins(1, 0, 10 * LATENCY)
+    yield begins(2, 0)
+    for first in range(0, len(notes), at_once):
+        for session in 1, 2:
+            for number in range(first, min(len(notes), first + at_once)):
+                yield out(session, SEND, [number])
+
+
+def waiting(notes, now):
+    """Notes that were sent from this time on over the slowest way there is, a sixth of them once and the first sixth six times; all
+    wait, and none would be sooner over any way as slow."""
+    yield from written(notes)
+    yield begins(0, 0, SLOWEST)
+    for tries in range(1, 7):
+        for number in range(len(notes) * (7 - tries) // 6):
+            yield out(0, SEND, [number], now)
+        now += 2 ** tries * SLOWEST
 
 
 # ---- messages that wait

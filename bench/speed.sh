@@ -49,6 +49,13 @@ ROWS = [
     Row('mailbox', 'mailbox.sh', 'a mailbox file of 20,000 notes of 200 bytes read into a store, and one written from it, over a bare program '
         'with the same writes and syncs; the memory of the reading over that of a load of the store that it leaves, the file and one record',
         '{mailbox_in:.2f}, {mailbox_out:.2f}; {mailbox_in_memory:.2f}', f'{BARE}; none'),
+    Row('quicker', 'quicker.sh', '20,000 notes of 200 bytes that a letter lost, sent and offered by `sync` over a quicker way, over the same of '
+        'a store in which nothing was tried, each less a load of its store; and as a whole; a turn with nothing due over 100,000 notes that '
+        'wait, over one over 100; an audit of 20,000 such tries, of as many by two ways that take turns of 64, and of 5,000 by two with one '
+        'try in a turn: the growth from half as many over linear; over a load of the same store',
+        '{quicker_batch:.2f}, {quicker_interactive:.2f}; {quicker_batch_whole:.2f}, {quicker_interactive_whole:.2f}; {quicker_turn:.2f}; '
+        '{quicker_audit_sooner:.2f}, {quicker_audit_by_turns:.2f}, {quicker_audit_one_by_one:.2f}; {quicker_audit_sooner_load:.2f}, '
+        '{quicker_audit_by_turns_load:.2f}, {quicker_audit_one_by_one_load:.2f}', '1; the load of what the letter added; 1; 1: linear; none'),
     Row('compact', 'compact.sh', 'a store of 20,000 notes that were heard and sent on in 200 sessions: its length once compacted, its load '
         'then, and the memory of `compact` over that of the load before; on a disk `compact` beside its load over a bare program with the '
         'same writes and syncs, on the clock and of the processor',
