@@ -1,6 +1,6 @@
 -- Queues of times over blocks of rows: what a change leaves, and that a search of the blocks is one of the rows.
-use Rattle.std.proofs.Common.{◌≡◌, ◌≢◌, ℕ, zero, suc, ◌+◌, ◌-◌, ◌*◌, ◌/◌, ◌^◌, ◌<◌, ◌≤◌, min, Bool, true, false, nat_le, nat_lt, List, [], ◌++◌, length, drop, Option, None, Some, IfSome, IfNone, refl, sym, ap, subst, ◌∙◌, get_or, set, replicate, arith, length-append, length-drop, inl, inr}
-use Rattle.std.proofs.lemmas.List.{length-set, length-replicate, get_or-set_same, get_or-set_other, get_or_past, get_or_default, get_or-drop, set-set, set-get_or}
+use Rattle.std.proofs.Common.{◌≡◌, ◌≢◌, ℕ, zero, suc, ◌+◌, ◌-◌, ◌*◌, ◌/◌, ◌^◌, ◌<◌, ◌≤◌, min, true, false, nat_le, nat_lt, List, [], ◌++◌, length, drop, Option, None, Some, IfSome, IfNone, refl, sym, ap, subst, ◌∙◌, get_or, set, replicate, arith, length-append, length-drop, inl, inr}
+use Rattle.std.proofs.lemmas.List.{length-set, length-replicate, get_or-set_same, get_or-set_other, get_or_past, get_or-drop, set-get_or}
 use Rattle.std.proofs.lemmas.Bool.{cases_eq, cases_lt, true≢false}
 use Rattle.std.proofs.lemmas.Bool.Decides.{nat_tests}
 use Rattle.due_tree.specs.Due.{is_due, next_due}
@@ -42,6 +42,48 @@ absorb (Some m) None rest h = refl
 absorb None (Some n) rest h = absurd (true≢false h)
 absorb (Some m) (Some n) None h = ap Some (min_left m n h)
 absorb (Some m) (Some n) (Some k) h = ap Some (min_absorb m n k h)
+
+later_none : (a : Option ℕ) → is_later a None ≡ false
+later_none None = refl
+later_none (Some m) = refl
+
+min_again : (m n : ℕ) → min m (min m n) ≡ min m n
+min_again m n = omega arith
+
+min_past : (m n k : ℕ) → nat_lt n m ≡ true → nat_lt (min n k) n ≡ true → min m k ≡ min n k
+min_past m n k h l = grind (arith, nat_tests)
+
+min_rest : (n k : ℕ) → nat_lt (min n k) n ≡ true → k ≡ min n k
+min_rest n k l = grind (arith, nat_tests)
+
+min_least : (m n : ℕ) → nat_lt n m ≡ true → min n m ≡ n
+min_least m n h = grind (arith, nat_tests)
+
+min_all : (m n k : ℕ) → nat_lt n m ≡ true → nat_lt (min n k) n ≡ false → min n (min m k) ≡ n
+min_all m n k h l = grind (arith, nat_tests)
+
+min_first : (n k : ℕ) → nat_lt (min n k) n ≡ false → min n k ≡ n
+min_first n k l = grind (arith, nat_tests)
+
+again : (a b : Option ℕ) → lesser a (lesser a b) ≡ lesser a b
+again None b = refl
+again (Some m) None = ap Some (let e : min m m ≡ m = omega arith in e)
+again (Some m) (Some n) = ap Some (min_again m n)
+
+-- a number that is later than one that was not the least leaves the least
+stays : (new old rest : Option ℕ) → is_later new old ≡ true → is_later old (lesser old rest) ≡ true → lesser new rest ≡ lesser old rest
+stays new None rest h k = absurd (true≢false (sym h ∙ later_none new))
+stays new (Some n) None h k = absurd (let e : nat_lt n n ≡ false = grind (arith, nat_tests) in true≢false (sym k ∙ e))
+stays None (Some n) (Some r) h k = ap Some (min_rest n r k)
+stays (Some m) (Some n) (Some r) h k = ap Some (min_past m n r h k)
+
+-- where the old number was the least, none is below it behind a later one
+none_below : (new old rest : Option ℕ) → is_later new old ≡ true → is_later old (lesser old rest) ≡ false → lesser old (lesser new rest) ≡ old
+none_below new None rest h k = absurd (true≢false (sym h ∙ later_none new))
+none_below None (Some n) None h k = refl
+none_below (Some m) (Some n) None h k = ap Some (min_least m n h)
+none_below None (Some n) (Some r) h k = ap Some (min_first n r k)
+none_below (Some m) (Some n) (Some r) h k = ap Some (min_all m n r h k)
 
 -- where neither of two is due, the lesser is not
 lesser_not_due : (bound : ℕ) (a b : Option ℕ) → is_due bound a ≡ false → is_due bound b ≡ false → is_due bound (lesser a b) ≡ false
@@ -86,23 +128,38 @@ module _ (what : Times) where
       let back : n - 1 + 1 ≡ n = omega arith in
       ap (least_from what rows (n - 1)) one ∙ ap (λ k. lesser (time_place what (kept_in rows (n - 1))) (least_from what rows k (last - n))) back
 
-  -- where a row's number becomes no later, the least one is it or what it was
-  least-lower : (rows : List KeptRow) (n : ℕ) (kept : KeptRow) → n < length rows → is_later (time_place what kept) (time_place what (kept_in rows n)) ≡ false → (first count : ℕ) → first ≤ n → n < first + count
-      → least_from what (set rows n kept) first count ≡ lesser (time_place what kept) (least_from what rows first count)
+  -- with a row written, the least number is that row's or the least that the others have
+  least-but : (rows : List KeptRow) (n : ℕ) (kept : KeptRow) → n < length rows → (first count : ℕ) → first ≤ n → n < first + count
+      → least_from what (set rows n kept) first count ≡ lesser (time_place what kept) (least_from what (set rows n no_kept) first count)
   unfolding least_from
-  least-lower rows n kept within h first zero low high = absurd (omega arith)
-  least-lower rows n kept within h first (suc count) low high =
+  least-but rows n kept within first zero low high = absurd (omega arith)
+  least-but rows n kept within first (suc count) low high =
+      let cleared = set rows n no_kept in
       elim (cases_eq first n) [
         | inl same ↦
-            let here : kept_in (set rows n kept) first ≡ kept = ap (kept_in (set rows n kept)) same ∙ get_or-set_same rows n kept no_kept within in
-            let rest = least-same rows (set rows n kept) (first + 1) count (λ k from to. get_or-set_other rows n k kept no_kept (let ne : k ≢ n = omega arith in ne)) in
-            let not : is_later (time_place what kept) (time_place what (kept_in rows first)) ≡ false = subst (λ k. is_later (time_place what kept) (time_place what (kept_in rows k)) ≡ false) (sym same) h in
-            (λ i. lesser (time_place what (here i)) (rest i))
-            ∙ sym (absorb (time_place what kept) (time_place what (kept_in rows first)) (least_from what rows (first + 1) count) not)
+            let here : (k : KeptRow) → kept_in (set rows n k) first ≡ k = λ k. ap (kept_in (set rows n k)) same ∙ get_or-set_same rows n k no_kept within in
+            let rest : (k : KeptRow) → least_from what (set rows n k) (first + 1) count ≡ least_from what rows (first + 1) count = λ k. least-same rows (set rows n k) (first + 1) count (λ j from to. get_or-set_other rows n j k no_kept (let ne : j ≢ n = omega arith in ne)) in
+            let none : time_place what (kept_in cleared first) ≡ None = ap (time_place what) (here no_kept) ∙ none_place what in
+            (λ i. lesser (time_place what (here kept i)) ((rest kept ∙ sym (rest no_kept)) i))
+            ∙ ap (λ p. lesser (time_place what kept) (lesser p (least_from what cleared (first + 1) count))) (sym none)
         | inr other ↦
-            (λ i. lesser (time_place what (get_or-set_other rows n first kept no_kept other i)) (least-lower rows n kept within h (first + 1) count (omega arith) (omega arith) i))
-            ∙ swap (time_place what (kept_in rows first)) (time_place what kept) (least_from what rows (first + 1) count)
+            (λ i. lesser (time_place what ((get_or-set_other rows n first kept no_kept other ∙ sym (get_or-set_other rows n first no_kept no_kept other)) i)) (least-but rows n kept within (first + 1) count (omega arith) (omega arith) i))
+            ∙ swap (time_place what (kept_in cleared first)) (time_place what kept) (least_from what cleared (first + 1) count)
       ]
+
+  -- the least number is a row's or the least that the others have
+  least-split : (rows : List KeptRow) (n first count : ℕ) → n < length rows → first ≤ n → n < first + count
+      → least_from what rows first count ≡ lesser (time_place what (kept_in rows n)) (least_from what (set rows n no_kept) first count)
+  least-split rows n first count within low high =
+      ap (λ rs. least_from what rs first count) (sym (set-get_or rows n no_kept)) ∙ least-but rows n (kept_in rows n) within first count low high
+
+  -- a row that has a number below which none is has the least
+  pub least_met : (rows : List KeptRow) (n first count : ℕ) (floor : Option ℕ) → n < length rows → first ≤ n → n < first + count → time_place what (kept_in rows n) ≡ floor
+      → lesser floor (least_from what rows first count) ≡ floor → floor ≡ least_from what rows first count
+  least_met rows n first count floor within low high here above =
+      let rest = least_from what (set rows n no_kept) first count in
+      let all : least_from what rows first count ≡ lesser floor rest = least-split rows n first count within low high ∙ ap (λ p. lesser p rest) here in
+      sym above ∙ ap (lesser floor) all ∙ again floor rest ∙ sym all
 
   -- ---- a row is written in place of an old one
 
@@ -125,15 +182,34 @@ module _ (what : Times) where
       small = omega (arith, b.small, length-set tree (n / 64) v);
     }
 
+    others : Option ℕ
+    others = least_from what (set rows n no_kept) (64 * (n / 64)) 64
+
+    is_new : least_from what rows (64 * (n / 64)) 64 ≡ lesser (time_place what (kept_in rows n)) others
+    unfolding others
+    is_new = least-split rows n (64 * (n / 64)) 64 within (omega arith) (omega arith)
+
+    is_held : place_at tree (n / 64) ≡ lesser (time_place what old) others
+    unfolding others
+    is_held = b.same (n / 64) ∙ least-but rows n old within (64 * (n / 64)) 64 (omega arith) (omega arith)
+
+    -- a number that is no later takes the old one's place
     pub lowered : is_later (time_place what (kept_in rows n)) (time_place what old) ≡ false → lesser (time_place what (kept_in rows n)) (place_at tree (n / 64)) ≡ least_from what rows (64 * (n / 64)) 64
     lowered h =
-        let kept = kept_in rows n in
-        let there : n < length (set rows n old) = omega (arith, same_length) in
-        let was : old ≡ kept_in (set rows n old) n = sym (get_or-set_same rows n old no_kept within) in
-        let back : set (set rows n old) n kept ≡ rows = set-set rows n old kept ∙ set-get_or rows n no_kept in
-        ap (lesser (time_place what kept)) (b.same (n / 64))
-        ∙ sym (least-lower (set rows n old) n kept there (subst (λ (k : KeptRow). is_later (time_place what kept) (time_place what k) ≡ false) was h) (64 * (n / 64)) 64 (omega arith) (omega arith))
-        ∙ ap (λ rs. least_from what rs (64 * (n / 64)) 64) back
+        let new = time_place what (kept_in rows n) in
+        ap (lesser new) is_held ∙ absorb new (time_place what old) others h ∙ sym is_new
+
+    -- a later one leaves the least where that was not the old one
+    pub stayed : is_later (time_place what (kept_in rows n)) (time_place what old) ≡ true → is_later (time_place what old) (place_at tree (n / 64)) ≡ true → place_at tree (n / 64) ≡ least_from what rows (64 * (n / 64)) 64
+    stayed h k =
+        let was = time_place what old in
+        is_held ∙ sym (stays (time_place what (kept_in rows n)) was others h (ap (is_later was) (sym is_held) ∙ k)) ∙ sym is_new
+
+    -- and where it was the old one, none is below that
+    pub floored : is_later (time_place what (kept_in rows n)) (time_place what old) ≡ true → is_later (time_place what old) (place_at tree (n / 64)) ≡ false → lesser (time_place what old) (least_from what rows (64 * (n / 64)) 64) ≡ time_place what old
+    floored h k =
+        let was = time_place what old in
+        ap (lesser was) is_new ∙ none_below (time_place what (kept_in rows n)) was others h (ap (is_later was) (sym is_held) ∙ k)
 
   -- ---- more rows, and more blocks
 

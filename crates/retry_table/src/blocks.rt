@@ -3,6 +3,7 @@
 ghost use Rattle.std.specs.Prelude.{◌≡◌, ◌*◌, ◌/◌, ◌+◌, ◌^◌, ◌<◌, ◌≤◌, true, false, IfSome, IfNone};
 ghost use Rattle.std.specs.Prelude.{None, length, slice_set};
 ghost use Rattle.retry_table.specs.Table.{kept_in};
+ghost use Rattle.due_tree.specs.Cells.{lesser};
 ghost use Rattle.retry_table.specs.Queues.{time_place, is_later, least_from, AreLeast};
 ghost use Rattle.retry_table.specs.Queues.{is_timely, next_timely, IsUntimely};
 
@@ -51,10 +52,17 @@ fn is_timely(times: Times, row: KeptRow, bound: u64) -> bool
     is_due(place_of(times, row), bound)
 }
 
-/// The least number that a row of a block has.
-pub(crate) fn least_in(rows: &[KeptRow], times: Times, block: usize) -> Option<u64>
+/// The least number that a row of a block has, where none has one below `floor`: once a row has that
+/// one, no other is looked at.
+pub(crate) fn least_in(
+    rows: &[KeptRow],
+    times: Times,
+    block: usize,
+    floor: Option<u64>,
+) -> Option<u64>
     requires there { 64 * block < length rows.now }
     requires few { length rows.now < 2 ^ 60 }
+    requires above { lesser floor (least_from times rows.now (64 * block) 64) ≡ floor }
     ensures { result ≡ least_from times rows.now (64 * block) 64 }
 {
     let first = BLOCK * block;
@@ -62,12 +70,17 @@ pub(crate) fn least_in(rows: &[KeptRow], times: Times, block: usize) -> Option<u
     let mut least = None;
     while n > first {
         n -= 1;
-        least = lesser(place_of(times, rows[n]), least);
+        let place = place_of(times, rows[n]);
+        if place == floor {
+            return floor;
+        }
+        least = lesser(place, least);
     }
     least
 }
 
-/// Mends the number of a row's block after the row was written in place of an old one.
+/// Mends the number of a row's block after the row was written in place of an old one. Only where the
+/// old row had the least number of the block, and the new one has a later one, are others looked at.
 pub(crate) fn mend(tree: &mut DueTree, times: Times, rows: &[KeptRow], n: usize, old: KeptRow)
     requires within { n < length rows.now }
     requires before { AreLeast times (slice_set rows.now n old) tree.old }
@@ -75,10 +88,14 @@ pub(crate) fn mend(tree: &mut DueTree, times: Times, rows: &[KeptRow], n: usize,
 {
     let block = n / BLOCK;
     let new = place_of(times, rows[n]);
-    let least = if is_later(new, place_of(times, old)) {
-        least_in(rows, times, block)
+    let was = place_of(times, old);
+    let held = tree.get(block);
+    let least = if !is_later(new, was) {
+        lesser(new, held)
+    } else if is_later(was, held) {
+        held
     } else {
-        lesser(new, tree.get(block))
+        least_in(rows, times, block, was)
     };
     put(tree, block, least);
 }

@@ -50,7 +50,7 @@ fn class_of(alloc: Global, rows: &[KeptRow], tries: u8) -> Result<DueTree, Alloc
         put(
             &mut tree,
             block,
-            least_in(rows, Times::Sooner(tries), block),
+            least_in(rows, Times::Sooner(tries), block, Some(0)),
         );
     }
     Ok(tree)
