@@ -1,5 +1,5 @@
 -- A step is made: the parts after it, by what its function knows.
-use Rattle.std.proofs.Common.{◌≡◌, ℕ, zero, suc, ◌<◌, Bool, cond, set, None, ◌||◌, List, [], ◌∷◌, ◌++◌, length, map, slice_set, Option, Some, slice_get, slice_index_or, sym, ◌∙◌, ap, subst, arith}
+use Rattle.std.proofs.Common.{◌≡◌, ℕ, zero, suc, ◌<◌, Bool, cond, set, None, MatchOption, ◌||◌, List, [], ◌∷◌, ◌++◌, length, map, slice_set, Option, Some, slice_get, slice_index_or, sym, ◌∙◌, ap, subst, arith}
 use Rattle.std.specs.Option.{option_map}
 use Rattle.sync_ids.specs.Values.{MessageValue}
 use Rattle.sync_rules.specs.declared.answers.Judgement.{Judgement}
@@ -7,14 +7,18 @@ use Rattle.sync_rules.specs.declared.entries.Entry.{Entry}
 use Rattle.sync_rules.specs.declared.entries.Entry.TheVariants as entry
 use Rattle.sync_rules.specs.declared.states.Origin.{Origin}
 use Rattle.sync_rules.specs.Clients.{Meaning}
-use Rattle.sync_rules.specs.Facts.{Facts, Held, Id}
+use Rattle.std.proofs.lemmas.List.Quantifiers.{position-Some}
+use Rattle.sync_rules.specs.Facts.{Facts, Held, Id, Known, group_at}
+use Rattle.sync_rules.specs.Lists.{same_id}
 use Rattle.sync_rules.specs.Sessions.{is_author}
 use Rattle.sync_rules.specs.Steps.{answer_of, next, verdict_in}
 use Rattle.message_graph.specs.declared.nodes.Judged.{Judged}
 use Rattle.message_graph.specs.declared.nodes.Node.{Node}
 use Rattle.message_graph.specs.declared.nodes.Ending.TheVariants as ending
+use Rattle.message_graph.specs.declared.nodes.Step.{Step}
 use Rattle.message_graph.specs.declared.nodes.Step.TheVariants as step
 use Rattle.message_graph.specs.Nodes as nodes
+use Rattle.message_graph.specs.Nodes.{step_number}
 use Rattle.retry_table.specs.Table as retry
 use Rattle.journal_state.specs.Parts.{Parts, answer_of_node, answers_of, facts_of}
 use Rattle.journal_state.specs.Whole.{StateValue, IsState, KnowsJudgements, id_at, value_of}
@@ -27,6 +31,7 @@ use Rattle.journal_state.proofs.Stepped.{answers_kept, invalid_state, invalid_fa
 use Rattle.journal_state.proofs.Grown.{grown_state, grown_facts}
 use Rattle.journal_state.proofs.Delivered.{delivered_state, delivered_facts, free_before}
 use Rattle.visibility_table.specs.Table as levels
+use Rattle.visibility_table.proofs.Groups.{numbered}
 
 -- ---- the node of a step
 
@@ -46,9 +51,32 @@ pub deliver_node : (p : Parts) → IsState p → (v : StateValue) → value_of p
     → Claims entry.Deliver n v → nodes.next_step p.nodes ≡ Some (step.Deliver n)
 deliver_node p s v view n claim = let k : Claims entry.Deliver n (value_of p) = subst (Claims entry.Deliver n) (sym view) claim in deliver_next k.1.0 p s k.1.1.0 n k.0 k.1.1.1
 
--- what is shown of a message is so of it
-shown_as : {A : Type 0} (f : Held → A) (o : Option Held) (h : Held) (x : A) → o ≡ Some h → option_map f o ≡ Some x → f h ≡ x
+-- what is shown of a message, or of a node, is so of it
+shown_as : {X A : Type 0} (f : X → A) (o : Option X) (h : X) (x : A) → o ≡ Some h → option_map f o ≡ Some x → f h ≡ x
 shown_as f o h x is shows = let both : Some (f h) ≡ Some x = sym (ap (option_map f) is) ∙ shows in let same : f h ≡ x = cc in same
+
+number_within : (gs : List Known) (id : Id) (k : ℕ) → levels.group_number gs id ≡ Some k → k < length gs
+number_within [] id k is = absurd (let e : None ≡ Some k = is in cc)
+number_within (g ∷ gs) id k is = (position-Some (λ (x : Known). same_id x.id id) (g ∷ gs) k g is).0
+
+-- the group of a step's node is that of its message
+module _ (p : Parts) (s : IsState p) (next_one : Step) (e : nodes.next_step p.nodes ≡ Some next_one)
+    (m : MessageValue) (m_is : option_map (λ (h : Held). h.message) (slice_get p.held (step_number next_one)) ≡ Some m)
+    (number : ℕ) (number_is : option_map (λ (node : Node). node.group) (slice_get p.nodes (step_number next_one)) ≡ Some number) where
+  pub group_told : levels.group_number p.table.groups m.group ≡ Some number
+  group_told =
+      let f : IsNext p next_one = next_found p s next_one e in
+      ap (λ (x : MessageValue). levels.group_number p.table.groups x.group) (sym (shown_as (λ (h : Held). h.message) (slice_get p.held (step_number next_one)) f.message m f.there m_is))
+      ∙ (s.grouped (step_number next_one) f.message f.node f.there f.at
+      ∙ ap Some (shown_as (λ (node : Node). node.group) (slice_get p.nodes (step_number next_one)) f.node number f.at number_is))
+
+  pub def_now : slice_get p.table.groups number ≡ group_at p.table.groups m.group
+  def_now =
+      let gs = p.table.groups in
+      subst (λ o. MatchOption o (group_at gs m.group ≡ None) (λ k. slice_get gs k ≡ group_at gs m.group)) group_told (numbered gs m.group)
+
+  pub def_within : number < length p.table.groups
+  def_within = number_within p.table.groups m.group number group_told
 
 -- the same answers are the clients' after a step that judges nothing
 same_known : (p : Parts) (clients : Meaning) (answers : List (Option Judgement)) (f : Facts) (hs : List Held) → answers ≡ answers_of p.nodes p.shares
@@ -104,20 +132,12 @@ module _ (p : Parts) (s : IsState p) (n : ℕ) (e : nodes.next_step p.nodes ≡ 
 
 -- ---- delivered
 
--- the message of the next step was not released, and its group is known
+-- the message of the next step was not released
 module _ (p : Parts) (s : IsState p) (n : ℕ) (e : nodes.next_step p.nodes ≡ Some (step.Deliver n)) where
   pub free_now : retry.group_at p.retry n ≡ None
   free_now =
       let f : IsNext p (step.Deliver n) = next_found p s (step.Deliver n) e in
       free_before p s n f.node f.message f.at f.there f.tells.1.0 f.tells.1.1 f.tells.2
-
-  pub known_now : (m : MessageValue) → option_map (λ (h : Held). h.message) (slice_get p.held n) ≡ Some m → (k : ℕ) × (levels.group_number p.table.groups m.group ≡ Some k)
-  known_now m m_is =
-      let f : IsNext p (step.Deliver n) = next_found p s (step.Deliver n) e in (
-        f.node.group,
-        ap (λ (x : MessageValue). levels.group_number p.table.groups x.group) (sym (shown_as (λ (h : Held). h.message) (slice_get p.held n) f.message m f.there m_is))
-            ∙ s.grouped n f.message f.node f.there f.at,
-      )
 
 got : {A : Type 0} (xs : List A) (n : ℕ) (x : A) → n < length xs → x ≡ slice_index_or xs n x → slice_get xs n ≡ Some x
 got [] n x within is = absurd (omega arith)

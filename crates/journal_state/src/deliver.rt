@@ -40,12 +40,21 @@ fn goes_to(table: &Levels, group: &GroupId, outgoing: bool, contact: u8) -> bool
     }
 }
 
-/// Makes room for the rows of all numbers below `numbers` at a contact, if a message goes there.
-fn reserve_row(retry: &mut Retry, contact: u8, numbers: u32, goes: bool) -> Result<(), AllocError>
+/// Makes room for the rows of all numbers below `numbers` at a contact, if a message of the group goes
+/// there. Where the rows are there its level is not looked up.
+fn reserve_row(
+    retry: &mut Retry,
+    table: &Levels,
+    group: &GroupId,
+    outgoing: bool,
+    contact: u8,
+    numbers: u32,
+) -> Result<(), AllocError>
     ensures same { GrowsRoom retry.old retry.new }
-    ensures room { OnOk result (goes ≡ true → numbers ≤ length (rows_of retry.new contact)) }
+    ensures room { OnOk result (goes_to table.now.levels group.now outgoing contact ≡ true
+        → numbers ≤ length (rows_of retry.new contact)) }
 {
-    if !goes {
+    if retry.has_rows(contact, numbers) || !goes_to(table, group, outgoing, contact) {
         return Ok(());
     }
     retry.reserve(contact, in_steps(numbers), 0)
@@ -67,8 +76,7 @@ fn reserve_rows(
 {
     for place in 0..table.contacts() {
         let contact = place as u8;
-        let goes = goes_to(table, group, outgoing, contact);
-        reserve_row(retry, contact, numbers, goes)?;
+        reserve_row(retry, table, group, outgoing, contact, numbers)?;
     }
     Ok(())
 }
@@ -162,7 +170,7 @@ impl State {
         ensures err { OnErr result (self.new.facts ≡ self.old.facts) }
     {
         let group = self.messages.message(n).group();
-        let number = self.table.group(&group).unwrap();
+        let number = self.graph.group(n);
         let outgoing = is_open(self.messages.origin(n), self.shares[n as usize]);
         let held = self.messages.len();
         // No group has a level for a contact that is not known.

@@ -84,6 +84,14 @@ impl CountedGraph {
         self.graph.name(n)
     }
 
+    /// The group of a node.
+    pub(crate) fn group(&self, n: u32) -> u32
+        requires { n < length self.now.nodes }
+        ensures { option_map (λ node. node.group) (slice_get self.now.nodes n) ≡ Some result }
+    {
+        self.graph.group(n)
+    }
+
     /// What hashes names.
     pub(crate) fn hasher(&self) -> RandomState {
         self.graph.hasher()

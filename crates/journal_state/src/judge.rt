@@ -1,5 +1,6 @@
 //! A held message is judged, or is invalid.
-ghost use Rattle.std.specs.Prelude.{◌≡◌, ◌<◌, Some, length, IfOk, OnOk, OnErr};
+ghost use Rattle.std.specs.Prelude.{◌≡◌, ◌<◌, Some, length, slice_get, IfOk, OnOk, OnErr};
+ghost use Rattle.sync_rules.specs.Facts.{group_at};
 ghost use Rattle.sync_rules.specs.Clients.{Meaning};
 ghost use Rattle.sync_rules.specs.Sessions.{may_share};
 ghost use Rattle.sync_rules.specs.Steps.{next, verdict_in};
@@ -14,20 +15,21 @@ use sync_ids::{Message, MessageId};
 use sync_rules::{Clients, Entry, Judgement};
 use visibility_table::Levels;
 
-/// What its client says of a message; Refuse where its group or its client is not known. It fails
-/// only for want of memory.
-pub(crate) fn judgement_of<C: Clients>(
+/// What its client says of a message, whose group has this number; Refuse where its client is not
+/// known. It fails only for want of memory.
+fn judgement_of<C: Clients>(
     alloc: Global,
     clients: &C,
     table: &Levels,
+    number: u32,
     message: &Message,
 ) -> Result<Judgement, AllocError>
+    requires known { number < length table.now.groups }
+    requires named { slice_get table.now.groups number ≡ group_at table.now.groups
+        message.now.group }
     ensures { IfOk result (λ j. j ≡ verdict_in (C.meaning clients.now) table.now.groups
         message.now) }
 {
-    let Some(number) = table.group(&message.group()) else {
-        return Ok(Judgement::Refuse);
-    };
     let def = table.def(number);
     match clients.kind_of(def.name(), def.major()) {
         Some(kind) => clients.judge(alloc, kind, message),
@@ -80,7 +82,9 @@ impl State {
         ensures err { OnErr result ((self.new.facts ≡ self.old.facts)
             × (self.new.answers ≡ self.old.answers)) }
     {
-        let judgement = judgement_of(alloc, clients, &self.table, self.messages.message(n))?;
+        let number = self.graph.group(n);
+        let message = self.messages.message(n);
+        let judgement = judgement_of(alloc, clients, &self.table, number, message)?;
         let (answer, share) = graph_answer(alloc, &judgement)?;
         self.graph.judged(n, answer)?;
         self.shares[n as usize] = share;

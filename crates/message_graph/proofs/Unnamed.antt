@@ -69,6 +69,14 @@ fate_there (x ∷ names) [] k rest h l r = absurd (omega arith)
 fate_there (x ∷ names) (y ∷ rests) zero rest h l r = (λ i. Some (fate_by (sym r i).answer (sym r i).ending))
 fate_there (x ∷ names) (y ∷ rests) (suc k) rest h l r = fate_there names rests k rest (omega arith) (omega arith) r
 
+-- a node has the group of the rest at its number
+pub group_there : (names : List (List ℕ)) (rests : List Unnamed) (k : ℕ) (rest : Unnamed) → length names ≡ length rests → k < length rests → rest ≡ get_or rests k rest → option_map (λ (node : Node). node.group) (slice_get (with_names names rests) k) ≡ Some rest.group
+group_there [] [] k rest h l r = absurd (omega arith)
+group_there [] (y ∷ rests) k rest h l r = absurd (omega arith)
+group_there (x ∷ names) [] k rest h l r = absurd (omega arith)
+group_there (x ∷ names) (y ∷ rests) zero rest h l r = λ i. Some (sym r i).group
+group_there (x ∷ names) (y ∷ rests) (suc k) rest h l r = group_there names rests k rest (omega arith) (omega arith) r
+
 -- the rest at the number of a name is that of the node of that name
 pub named_rest : (names : List (List ℕ)) (rests : List Unnamed) (name : List ℕ) (k : ℕ)
     (rest : Unnamed) → node_number (with_names names rests) name ≡ Some k

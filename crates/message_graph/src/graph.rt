@@ -132,6 +132,14 @@ impl Graph {
         self.index.name(n)
     }
 
+    /// The group of a node; the number is below the number of nodes.
+    pub fn group(&self, n: u32) -> u32
+        requires { n < length self.now.nodes }
+        ensures { option_map (λ node. node.group) (slice_get self.now.nodes n) ≡ Some result }
+    {
+        self.nodes[n as usize].group
+    }
+
     /// What hashes names.
     pub fn hasher(&self) -> RandomState {
         self.index.hasher()

@@ -111,6 +111,10 @@ fn accepted(
     ensures numbers { index.new.numbers ≡ index.old.numbers }
     ensures room { spare ≤ index.new.room }
 {
+    // Most messages depend on none, and take no room of those who wait.
+    if names.is_empty() {
+        return Ok(Waiting::Missing(0));
+    }
     let room = match spare.checked_add(names.len()) {
         None => return Err(AllocError),
         Some(room) => room,

@@ -1,7 +1,7 @@
 //! The rows of all contacts, and the group in which each message was released. What is said of a
 //! whole group for a contact costs a note; the contact's queues are brought in order later.
 ghost use Rattle.std.specs.Prelude.{◌≡◌, ◌+◌, ◌-◌, ◌^◌, ◌<◌, ◌≤◌, ◌++◌, [], ℕ, IfOk, OnOk, OnErr};
-ghost use Rattle.std.specs.Prelude.{None, Some, length, replicate, slice_index_or, slice_set};
+ghost use Rattle.std.specs.Prelude.{None, Some, length, nat_le, replicate, slice_index_or, slice_set};
 ghost use Rattle.retry_table.specs.Due.{message_in, offers_in, owed_in, sooner_in};
 ghost use Rattle.retry_table.specs.Due.{sooner_offers_in};
 ghost use Rattle.std.specs.List.{AllByRecursion};
@@ -78,6 +78,13 @@ impl AllRows {
     {
         self.contacts[contact as usize].reserve(numbers)?;
         Ok(())
+    }
+
+    /// Whether a contact has rows for all numbers below this one.
+    pub(crate) fn has_rows(&self, contact: u8, numbers: u32) -> bool
+        ensures { result ≡ nat_le numbers (length (rows_at self.now contact)) }
+    {
+        numbers as usize <= self.contacts[contact as usize].queues.len()
     }
 
     /// Makes room for the release of all messages below this number. It takes memory; after an

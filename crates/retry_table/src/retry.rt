@@ -1,7 +1,7 @@
 //! `Retry`.
 ghost use Rattle.std.specs.Prelude.{◌≡◌, ◌+◌, ◌-◌, ◌^◌, ◌<◌, ◌≤◌, ◌++◌, ◌∷◌, [], ℕ, true, false, IfOk};
 ghost use Rattle.std.specs.Prelude.{OnOk, OnErr, None, Some, length, replicate, slice_get, slice_index_or};
-ghost use Rattle.std.specs.Prelude.{slice_set};
+ghost use Rattle.std.specs.Prelude.{nat_le, slice_set};
 ghost use Rattle.sync_rules.specs.Lists.{is_among, without};
 ghost use Rattle.sync_rules.specs.Facts.{row_seen, row_acked, row_asked, row_sent, row_offered};
 ghost use Rattle.retry_table.specs.Table.{no_wants, rows_of, wants_of, kept_at, with_row};
@@ -88,6 +88,13 @@ impl Retry {
                 Err(error)
             }
         }
+    }
+
+    /// Whether a contact has rows of all numbers below `numbers`.
+    pub fn has_rows(&self, contact: u8, numbers: u32) -> bool
+        ensures { result ≡ nat_le numbers (length (rows_of self.now contact)) }
+    {
+        self.rows.has_rows(contact, numbers)
     }
 
     /// Makes room for `release` of all messages below `numbers`, and never takes room away. It takes

@@ -15,7 +15,7 @@ use Rattle.journal_state.proofs.Honest.{honest_ended}
 use Rattle.retry_table.specs.Table as retry
 use Rattle.journal_state.specs.Delivery.{goes_to, GrowsRoom}
 use Rattle.journal_state.proofs.Limited.{limits_same, readied_row}
-use Rattle.journal_state.proofs.Made.{deliver_node, delivered_then, delivered_so, delivered_same, free_now, known_now}
+use Rattle.journal_state.proofs.Made.{deliver_node, delivered_then, delivered_so, delivered_same, free_now, group_told}
 use Rattle.journal_state.proofs.state.State.deliver.Goals as goal
 
 pub returns-in_err-reserve_rows-clause-err : goal.returns-in_err-reserve_rows-clause-err
@@ -33,8 +33,12 @@ returns-in_err-reserve-clause-err c =
 grown : (c : goal.After-make_ready) → GrowsRoom c.self.inside.retry c.reserve_release.new.retry
 grown c = grown_twice c.self.inside.retry c.reserve_rows.new.retry c.reserve_release.new.retry c.reserve_rows.ensures.same c.reserve_release.ensures.same
 
-numbered : (c : goal.After-make_ready) → levels.group_number c.self.inside.table.groups c.group-group.result ≡ Some c.unwrap-number.result
-numbered c = sym c.group.ensures.number ∙ c.unwrap-number.ensures
+numbered : (c : goal.After-make_ready) → levels.group_number c.self.inside.table.groups c.group-group.result ≡ Some c.group-number.result
+numbered c =
+    ap (levels.group_number c.self.inside.table.groups) c.group-group.ensures
+    ∙ group_told (parts c.self.inside) c.self.invariant.state (step.Deliver c.args.n)
+    (deliver_node (parts c.self.inside) c.self.invariant.state c.args.self.now c.self.view_is c.args.n (c.requires.held, c.requires.next))
+    c.message.result.now c.message.ensures c.group-number.result c.group-number.ensures
 
 fits : (c : goal.After-make_ready) → c.args.n < length c.reserve_release.new.retry.groups
 fits c =
@@ -63,7 +67,7 @@ invariant_of-self-2 c =
       state =
           delivered_then (parts c.self.inside) c.self.invariant.state c.args.n (node c) c.message.result.now c.message.ensures c.group-group.result c.group-group.ensures c.origin.result c.origin.ensures
           c.index.result.now c.index.ensures c.is_open-outgoing.result c.is_open-outgoing.ensures c.reserve_release.new.retry (grown c) c.make_ready.new.retry c.make_ready.ensures.readies
-          c.unwrap-number.result (numbered c) c.make_ready.ensures.groups (fits c) c.apply.new.self.nodes (ended c) c.push.new.self.items (pushed c);
+          c.group-number.result (numbered c) c.make_ready.ensures.groups (fits c) c.apply.new.self.nodes (ended c) c.push.new.self.items (pushed c);
       roomy = record {
         table = c.self.invariant.roomy.table;
         messages = c.self.invariant.roomy.messages;
@@ -87,14 +91,14 @@ pub returns-clause-facts : goal.returns-clause-facts
 returns-clause-facts c =
     delivered_so (parts c.self.inside) c.self.invariant.state c.args.n (node c) c.message.result.now c.message.ensures c.group-group.result c.group-group.ensures c.origin.result c.origin.ensures
     c.index.result.now c.index.ensures c.is_open-outgoing.result c.is_open-outgoing.ensures c.reserve_release.new.retry (grown c) c.make_ready.new.retry c.make_ready.ensures.readies
-    c.unwrap-number.result (numbered c) c.make_ready.ensures.groups (fits c) c.apply.new.self.nodes (ended c) c.push.new.self.items (pushed c)
+    c.group-number.result (numbered c) c.make_ready.ensures.groups (fits c) c.apply.new.self.nodes (ended c) c.push.new.self.items (pushed c)
     ∙ ap (λ (v : StateValue). moved v.facts (entry.Deliver (id_at v.facts.held c.args.n))) c.self.view_is
 
 pub returns-clause-answers : goal.returns-clause-answers
 returns-clause-answers c =
     delivered_same (parts c.self.inside) c.self.invariant.state c.args.n (node c) c.message.result.now c.message.ensures c.group-group.result c.group-group.ensures c.origin.result c.origin.ensures
     c.index.result.now c.index.ensures c.is_open-outgoing.result c.is_open-outgoing.ensures c.reserve_release.new.retry (grown c) c.make_ready.new.retry c.make_ready.ensures.readies
-    c.unwrap-number.result (numbered c) c.make_ready.ensures.groups (fits c) c.apply.new.self.nodes (ended c) c.push.new.self.items (pushed c)
+    c.group-number.result (numbered c) c.make_ready.ensures.groups (fits c) c.apply.new.self.nodes (ended c) c.push.new.self.items (pushed c)
     ∙ ap (λ (v : StateValue). v.answers) c.self.view_is
 
 pub invariant_of-self : goal.invariant_of-self
@@ -161,13 +165,6 @@ pub make_ready-requires-clause-room : goal.make_ready-requires-clause-room
 make_ready-requires-clause-room c =
     let below : c.args.n < length c.self.inside.messages.held = subst (λ (v : StateValue). c.args.n < length v.facts.held) (sym c.self.view_is) c.requires.held in
     omega (arith, below, c.len-held.ensures, c.in_ok-reserve_release.ensures.room)
-
-pub unwrap-number-requires : goal.unwrap-number-requires
-unwrap-number-requires c =
-    let k = known_now (parts c.self.inside) c.self.invariant.state c.args.n
-    (deliver_node (parts c.self.inside) c.self.invariant.state c.args.self.now c.self.view_is c.args.n (c.requires.held, c.requires.next)) c.message.result.now c.message.ensures in
-    let is : c.group.result ≡ Some k.0 = c.group.ensures.number ∙ (ap (levels.group_number c.self.inside.table.groups) c.group-group.ensures ∙ k.1) in
-    subst IsSome (sym is) refl
 
 pub invariant_of-self-in_err-reserve : goal.invariant_of-self-in_err-reserve
 invariant_of-self-in_err-reserve c =

@@ -2,13 +2,26 @@ use Rattle.std.proofs.Common.{◌≡◌, List, length, set, ap, subst, sym, ◌�
 use Rattle.std.proofs.lemmas.List.{length-set}
 use Rattle.sync_rules.specs.declared.entries.Entry.TheVariants as entry
 use Rattle.message_graph.specs.declared.nodes.Node.{Node}
+use Rattle.message_graph.specs.declared.nodes.Step.TheVariants as step
 use Rattle.message_graph.specs.Nodes as nodes
 use Rattle.journal_state.specs.Whole.{StateValue, IsState, KnowsJudgements, id_at}
 use Rattle.journal_state.specs.Taking.{moved}
 use Rattle.journal_state.specs.Inside.{IsHonest, parts}
 use Rattle.journal_state.proofs.Honest.{honest_judged}
-use Rattle.journal_state.proofs.Made.{judge_node, judged_then, judged_so, judged_known}
+use Rattle.journal_state.proofs.Made.{def_now, def_within, judge_node, judged_then, judged_so, judged_known}
 use Rattle.journal_state.proofs.state.State.judge.Goals as goal
+
+pub judgement_of-requires-clause-known : goal.judgement_of-requires-clause-known
+judgement_of-requires-clause-known g c =
+    def_within (parts c.self.inside) c.self.invariant.state (step.Judge c.args.n)
+    (judge_node (parts c.self.inside) c.self.invariant.state c.args.self.now c.self.view_is c.args.n (c.requires.held, (g.C.Clients.meaning c.args.clients.now, (c.requires.knows, c.requires.next))))
+    c.message-message.result.now c.message-message.ensures c.group-number.result c.group-number.ensures
+
+pub judgement_of-requires-clause-named : goal.judgement_of-requires-clause-named
+judgement_of-requires-clause-named g c =
+    def_now (parts c.self.inside) c.self.invariant.state (step.Judge c.args.n)
+    (judge_node (parts c.self.inside) c.self.invariant.state c.args.self.now c.self.view_is c.args.n (c.requires.held, (g.C.Clients.meaning c.args.clients.now, (c.requires.knows, c.requires.next))))
+    c.message-message.result.now c.message-message.ensures c.group-number.result c.group-number.ensures
 
 pub judged-requires : goal.judged-requires
 judged-requires g c =
@@ -52,7 +65,7 @@ returns-clause-knows g c =
     judged_known (parts c.self.inside) c.self.invariant.state c.args.n
     (judge_node (parts c.self.inside) c.self.invariant.state c.args.self.now c.self.view_is c.args.n (c.requires.held, (g.C.Clients.meaning c.args.clients.now, (c.requires.knows, c.requires.next))))
     c.in_ok-answer.answer c.in_ok-answer.share c.in_ok-judgement.judgement c.in_ok-answer.ensures.answer c.judged.new.self.nodes (ap (λ (s : nodes.Shown). s.nodes) c.in_ok-judged.ensures.ok)
-    (g.C.Clients.meaning c.args.clients.now) (subst (KnowsJudgements (g.C.Clients.meaning c.args.clients.now)) (sym c.self.view_is) c.requires.knows) c.message.result.now c.message.ensures c.in_ok-judgement.ensures
+    (g.C.Clients.meaning c.args.clients.now) (subst (KnowsJudgements (g.C.Clients.meaning c.args.clients.now)) (sym c.self.view_is) c.requires.knows) c.message-message.result.now c.message-message.ensures c.in_ok-judgement.ensures
 
 pub invariant_of-self : goal.invariant_of-self
 invariant_of-self g c =
