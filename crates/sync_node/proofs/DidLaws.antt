@@ -9,7 +9,7 @@ use Rattle.sync_rules.specs.Clients.{Meaning}
 use Rattle.sync_rules.specs.Facts.{Journal}
 use Rattle.entry_codec.specs.Standing.{journal}
 use Rattle.sync_store.specs.Store.{StoreValue}
-use Rattle.sync_course.specs.Acts.{Act, AtFront, batches_in, commit_acts, events_of, sends_on}
+use Rattle.sync_course.specs.Acts.{Act, AtFront, batches_in, events_of, sends_on}
 use Rattle.sync_course.specs.Events.{Event, TellsEvents as Tells}
 use Rattle.sync_course.proofs.ActLaws.{batches_in-append, events_of-append, next_wide, sends_on-append}
 use Rattle.sync_course.proofs.ToldLaws.{told_none, told_then}
@@ -110,18 +110,13 @@ did_none clients s o = record {
   moments = λ told j fit. since_none o (AtFront clients [] j (sent_on o.links));
 }
 
--- the calls of the batches of two lists, and of some that were next
-calls_add : (acts bs : List Act) (next : Journal)
-    → 4 * length (batches_in acts) + 4 * length (next ++ batches_in bs)
-    ≡ 4 * length (next ++ batches_in (acts ++ bs))
-calls_add acts bs next =
+-- the calls of the batches of two lists
+calls_add : (acts bs : List Act)
+    → 4 * length (batches_in acts) + 4 * length (batches_in bs) ≡ 4 * length (batches_in (acts ++ bs))
+calls_add acts bs =
     let both : length (batches_in (acts ++ bs)) ≡ length (batches_in acts) + length (batches_in bs) =
     ap (λ (l : Journal). length l) (batches_in-append acts bs) ∙ length-append (batches_in acts) (batches_in bs) in
-    let first : length (next ++ batches_in bs) ≡ length next + length (batches_in bs) =
-    length-append next (batches_in bs) in
-    let all : length (next ++ batches_in (acts ++ bs)) ≡ length next + length (batches_in (acts ++ bs)) =
-    length-append next (batches_in (acts ++ bs)) in
-    omega (arith, both, first, all)
+    omega (arith, both)
 
 sent_then : (acts bs : List Act) (o o1 o2 : Outside) → LetsNothingFall o o1 → HasSentBy acts o o1
     → HasSentBy bs o1 o2 → HasSentBy (acts ++ bs) o o2
@@ -163,7 +158,7 @@ did_then {clients = clients} {acts = acts} {bs = bs} {s = s} {s1 = s1} {s2 = s2}
           ∙ ap (λ (l : Journal). j ++ l) (sym (batches_in-append acts bs)))
           (second.fits (j ++ batches_in acts) (first.fits j fit));
       calls =
-          subst (λ (n : ℕ). MakesAtMost n o o2) (calls_add acts bs [])
+          subst (λ (n : ℕ). MakesAtMost n o o2) (calls_add acts bs)
           (most_then (4 * length (batches_in acts)) (4 * length (batches_in bs)) o o1 o2 first.calls
           second.calls);
       file = second.file ∙ first.file;
@@ -173,7 +168,7 @@ did_then {clients = clients} {acts = acts} {bs = bs} {s = s} {s1 = s1} {s2 = s2}
       moments = fronts_then clients acts bs s s1 s2 o o1 o2 first second.moments;
     }
 
-pub some_then : {clients : Meaning} {acts bs : List Act} {next : Journal} {s s1 s2 : StoreValue}
+pub some_then : {clients : Meaning} {acts bs next : List Act} {s s1 s2 : StoreValue}
     {o o1 o2 : Outside} → Did clients acts s s1 o o1 → DidSome clients bs next s1 s2 o1 o2
     → DidSome clients (acts ++ bs) next s s2 o o2
 some_then {clients = clients} {acts = acts} {bs = bs} {next = next} {s = s} {s1 = s1} {s2 = s2} {o =
@@ -189,14 +184,16 @@ some_then {clients = clients} {acts = acts} {bs = bs} {next = next} {s = s} {s1 
           ∙ ap (λ (l : Journal). j ++ l) (sym (batches_in-append acts bs)))
           (second.reads (j ++ batches_in acts) (first.fits j fit));
       calls =
-          subst (λ (n : ℕ). MakesAtMost n o o2) (calls_add acts bs next)
-          (most_then (4 * length (batches_in acts)) (4 * length (next ++ batches_in bs)) o o1 o2
-          first.calls second.calls);
+          subst (λ (l : List Act). MakesAtMost (4 * length (batches_in l)) o o2)
+          (sym (append_assoc acts bs next))
+          (subst (λ (n : ℕ). MakesAtMost n o o2) (calls_add acts (bs ++ next))
+          (most_then (4 * length (batches_in acts)) (4 * length (batches_in (bs ++ next))) o o1 o2
+          first.calls second.calls));
       breaks =
           breaks_behind s.file s.end s1.end o o1 o2 first.appends
           (subst (λ (f : ℕ). BreaksAppends f s1.end o1 o2) first.file second.breaks);
       moments =
           subst (λ (acts : List Act). ComesAtFronts clients acts s o o2)
-          (sym (append_assoc acts bs (commit_acts next)))
-          (fronts_then clients acts (bs ++ commit_acts next) s s1 s2 o o1 o2 first second.moments);
+          (sym (append_assoc acts bs next))
+          (fronts_then clients acts (bs ++ next) s s1 s2 o o1 o2 first second.moments);
     }

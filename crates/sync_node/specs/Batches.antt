@@ -37,7 +37,7 @@ pub record Breaks (clients : Meaning) (may : Journal) (s s' : StoreValue)
   pub front : Journal
   pub others : Journal
   pub parts : may ≡ front ++ others
-  pub did : DidSome clients (commit_acts front) others s s' o o'
+  pub did : DidSome clients (commit_acts front) (commit_acts others) s s' o o'
   pub rose : CountRose o.disk_faults o'.disk_faults
 
 -- ---- one batch

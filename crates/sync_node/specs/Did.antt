@@ -8,7 +8,7 @@ use Rattle.outside.specs.Runs.{TellsAll}
 use Rattle.sync_rules.specs.Clients.{Meaning}
 use Rattle.sync_rules.specs.Facts.{Journal}
 use Rattle.sync_store.specs.Store.{StoreValue}
-use Rattle.sync_course.specs.Acts.{Act, AtFront, batches_in, commit_acts, events_of, sends_on}
+use Rattle.sync_course.specs.Acts.{Act, AtFront, batches_in, events_of, sends_on}
 use Rattle.sync_course.specs.Events.{TellsEvents as Tells}
 use Rattle.sync_node.specs.Courses.{FitsWith, ReadsAs}
 use Rattle.sync_node.specs.Going.{LetsNothingFall}
@@ -48,11 +48,11 @@ pub record Did (clients : Meaning) (acts : List Act) (s s' : StoreValue)
   pub appends : Appends s.file s.end s'.end o o'
   pub moments : ComesAtFronts clients acts s o o'
 
--- These acts were done, and these batches were to be committed next: a call of the disk failed in
--- one of them or behind them. The files as they read stand for the journal with the batches of the
--- acts; a crash may leave some of the next ones too. The calls of the disk were those of appends to
--- the journal's file, up to the one that failed.
-pub record DidSome (clients : Meaning) (acts : List Act) (next : Journal) (s s' : StoreValue)
+-- These acts were done, and these were next: a call of the disk failed in committing a batch of
+-- them, or behind them. The files as they read stand for the journal with the batches of the former;
+-- a crash may leave some of the next ones too. The calls of the disk were those of appends to the
+-- journal's file, up to the one that failed.
+pub record DidSome (clients : Meaning) (acts next : List Act) (s s' : StoreValue)
     (o o' : Outside) : Type 0 where
   pub goes : LetsNothingFall o o'
   pub tells : Tells (events_of acts) o o'
@@ -61,6 +61,6 @@ pub record DidSome (clients : Meaning) (acts : List Act) (next : Journal) (s s' 
   pub format : s'.format ≡ s.format
   pub reads : (j : Journal) → FitsWith clients s o.files j
       → ReadsAs clients o'.files (j ++ batches_in acts)
-  pub calls : MakesAtMost (4 * length (next ++ batches_in acts)) o o'
+  pub calls : MakesAtMost (4 * length (batches_in (acts ++ next))) o o'
   pub breaks : BreaksAppends s.file s.end o o'
-  pub moments : ComesAtFronts clients (acts ++ commit_acts next) s o o'
+  pub moments : ComesAtFronts clients (acts ++ next) s o o'
