@@ -20,9 +20,9 @@ use Rattle.sync_node.specs.declared.fault.Fault.{Fault}
 use Rattle.sync_node.specs.declared.link.Link.{Link}
 use Rattle.sync_node.specs.Courses.{IsLinkRead, IsReadyToSend, IsTaking, link_at, sends_on, spot_at}
 use Rattle.sync_node.specs.Going.{LetsNothingFall}
-use Rattle.sync_node.specs.Keeps.{StaysSettled, StoreKeeps, stop_of}
+use Rattle.sync_node.specs.Keeps.{StaysGathering, StoreGathers, stop_of}
 use Rattle.sync_node.specs.Sending.{StaysOrFails}
-use Rattle.sync_node.specs.Went.{Makes, Stopped, Went}
+use Rattle.sync_node.specs.Went.{Goes, Halted, Makes, Stopped, Went}
 
 -- ---- the machine of a link's turn
 
@@ -51,15 +51,28 @@ LinkStopped clients n session p link s s' o o' e =
     (first : ℕ) → session ≡ first + n
     → Stopped clients (LinkActs clients first n) (λ (q : Owing Spot). q.at.link ≡ link) (paid p) s s' o o' e
 
+-- the same of what is under way, whose batches wait
+abbrev pub LinkUnder : Meaning → ℕ → ℕ → Spot → Spot → StoreValue → StoreValue → Outside → Outside
+    → Type 0
+LinkUnder clients n session p q s s' o o' =
+    (first : ℕ) → session ≡ first + n
+    → Goes clients (LinkActs clients first n) (paid p) (paid q) s s' o o'
+
+abbrev pub LinkHalted : Meaning → ℕ → ℕ → Spot → course_links.Link → StoreValue → StoreValue
+    → Outside → Outside → Fault → Type 0
+LinkHalted clients n session p link s s' o o' e =
+    (first : ℕ) → session ≡ first + n
+    → Halted clients (LinkActs clients first n) (λ (q : Owing Spot). q.at.link ≡ link) (paid p) s s' o o' e
+
 -- ---- a record that is taken
 
--- the record at the front of the items was taken, and the journal settled
+-- the record at the front of the items was taken, and the journal settled; its batches wait
 pub record RecordTaken (clients : Meaning) (session : ℕ) (r : Record) (s s' : StoreValue)
     (o o' : Outside) : Type 0 where
   pub settled : IsSettled clients s'.state.facts
   pub went : (n place : ℕ) (its : List Item) (p : Spot) → p.doing ≡ Takes (item.One place r ∷ its)
       → p.facts ≡ s.state.facts
-      → LinkWent clients n session p
+      → LinkUnder clients n session p
       (record {
         doing = Takes (items_after r its);
         link = link_after_take place r p.link;
@@ -67,19 +80,19 @@ pub record RecordTaken (clients : Meaning) (session : ℕ) (r : Record) (s s' : 
         facts = s'.state.facts;
       }) s s' o o'
 
-pub record RecordStopped (clients : Meaning) (session : ℕ) (r : Record) (s s' : StoreValue)
+pub record RecordHalted (clients : Meaning) (session : ℕ) (r : Record) (s s' : StoreValue)
     (o o' : Outside) (e : Fault) : Type 0 where
-  pub stops : (n place : ℕ) (its : List Item) (p : Spot)
+  pub halts : (n place : ℕ) (its : List Item) (p : Spot)
       → p.doing ≡ Takes (item.One place r ∷ its) → p.facts ≡ s.state.facts
-      → LinkStopped clients n session p (link_after_take place r p.link) s s' o o' e
+      → LinkHalted clients n session p (link_after_take place r p.link) s s' o o' e
 
 -- the record, by what the work of taking it answers, and what it keeps
 pub record RecordWorks (clients : Meaning) (session : ℕ) (r : Record) (s s' : StoreValue)
     (o o' : Outside) (result : Result (Unit {0}) Fault) : Type 0 where
   pub went : OnOk result (RecordTaken clients session r s s' o o')
-  pub stopped : IfErr result (RecordStopped clients session r s s' o o')
+  pub halted : IfErr result (RecordHalted clients session r s s' o o')
   pub goes : LetsNothingFall o o'
-  pub keeps : StoreKeeps (StaysSettled clients s s' o') clients s s' o o' (stop_of result)
+  pub keeps : StoreGathers (StaysGathering clients s s' o') clients s s' o o' (stop_of result)
 
 -- ---- the items of a piece
 
@@ -88,11 +101,11 @@ abbrev pub TakesOrPassesItem : Meaning → ℕ → List ℕ → List Item → Bo
     → StoreValue → Outside → Outside → Bool → Type 0
 TakesOrPassesItem clients n heard its moved left l l' s s' o o' true =
     (others : List Item) × IsTaking heard left l' others l'.end
-    × LinkWent clients n l.session.number (spot_at (Takes its) l heard moved s.state.facts)
+    × LinkUnder clients n l.session.number (spot_at (Takes its) l heard moved s.state.facts)
     (spot_at (Takes others) l' heard moved s'.state.facts) s s' o o'
 TakesOrPassesItem clients n heard its moved left l l' s s' o o' false =
     HasRead heard l'.reader
-    × LinkWent clients n l.session.number (spot_at (Takes its) l heard moved s.state.facts)
+    × LinkUnder clients n l.session.number (spot_at (Takes its) l heard moved s.state.facts)
     (spot_at Waits l' heard moved s'.state.facts) s s' o o'
 
 -- one item was, or, where more may come, some of them
@@ -101,19 +114,19 @@ pub record NextWent (piece left : List ℕ) (clients : Meaning) (n : ℕ) (l l' 
   pub leads : (heard : List ℕ) (its : List Item) (moved : Bool) → IsReading heard piece l.reader its
       → TakesOrPassesItem clients n heard its moved left l l' s s' o o' more
 
-pub record ItemsStopped (piece : List ℕ) (clients : Meaning) (n : ℕ) (l l' : Link)
+pub record ItemsHalted (piece : List ℕ) (clients : Meaning) (n : ℕ) (l l' : Link)
     (s s' : StoreValue) (o o' : Outside) (e : Fault) : Type 0 where
-  pub stops : (heard : List ℕ) (its : List Item) (moved : Bool) → IsReading heard piece l.reader its
-      → LinkStopped clients n l.session.number
+  pub halts : (heard : List ℕ) (its : List Item) (moved : Bool) → IsReading heard piece l.reader its
+      → LinkHalted clients n l.session.number
       (spot_at (Takes its) l heard moved s.state.facts) (link_at l' heard) s s' o o' e
 
--- all of them were, and the link waits for the clock
+-- all of them were, and the link waits for the clock, once what waits is added
 pub record PieceWent (piece : List ℕ) (clients : Meaning) (n : ℕ) (l l' : Link)
     (s s' : StoreValue) (o o' : Outside) (u : Unit {0}) : Type 0 where
   pub has_read : (heard : List ℕ) (its : List Item) → IsReading heard piece l.reader its
       → l'.end ≡ link_end.Going → HasRead heard l'.reader
   pub went : (heard : List ℕ) (its : List Item) (moved : Bool) → IsReading heard piece l.reader its
-      → LinkWent clients n l.session.number (spot_at (Takes its) l heard moved s.state.facts)
+      → LinkUnder clients n l.session.number (spot_at (Takes its) l heard moved s.state.facts)
       (spot_at Waits l' heard moved s'.state.facts) s s' o o'
 
 -- ---- hearing
