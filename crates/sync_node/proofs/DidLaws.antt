@@ -110,13 +110,18 @@ did_none clients s o = record {
   moments = λ told j fit. since_none o (AtFront clients [] j (sent_on o.links));
 }
 
--- the calls of the batches of two lists
-calls_add : (acts bs : List Act)
-    → 4 * length (batches_in acts) + 4 * length (batches_in bs) ≡ 4 * length (batches_in (acts ++ bs))
-calls_add acts bs =
+-- the calls of the batches of two lists, and of some that were next
+calls_add : (acts bs : List Act) (next : Journal)
+    → 4 * length (batches_in acts) + 4 * length (next ++ batches_in bs)
+    ≡ 4 * length (next ++ batches_in (acts ++ bs))
+calls_add acts bs next =
     let both : length (batches_in (acts ++ bs)) ≡ length (batches_in acts) + length (batches_in bs) =
     ap (λ (l : Journal). length l) (batches_in-append acts bs) ∙ length-append (batches_in acts) (batches_in bs) in
-    omega (arith, both)
+    let first : length (next ++ batches_in bs) ≡ length next + length (batches_in bs) =
+    length-append next (batches_in bs) in
+    let all : length (next ++ batches_in (acts ++ bs)) ≡ length next + length (batches_in (acts ++ bs)) =
+    length-append next (batches_in (acts ++ bs)) in
+    omega (arith, both, first, all)
 
 sent_then : (acts bs : List Act) (o o1 o2 : Outside) → LetsNothingFall o o1 → HasSentBy acts o o1
     → HasSentBy bs o1 o2 → HasSentBy (acts ++ bs) o o2
@@ -158,7 +163,7 @@ did_then {clients = clients} {acts = acts} {bs = bs} {s = s} {s1 = s1} {s2 = s2}
           ∙ ap (λ (l : Journal). j ++ l) (sym (batches_in-append acts bs)))
           (second.fits (j ++ batches_in acts) (first.fits j fit));
       calls =
-          subst (λ (n : ℕ). MakesAtMost n o o2) (calls_add acts bs)
+          subst (λ (n : ℕ). MakesAtMost n o o2) (calls_add acts bs [])
           (most_then (4 * length (batches_in acts)) (4 * length (batches_in bs)) o o1 o2 first.calls
           second.calls);
       file = second.file ∙ first.file;
@@ -184,11 +189,9 @@ some_then {clients = clients} {acts = acts} {bs = bs} {next = next} {s = s} {s1 
           ∙ ap (λ (l : Journal). j ++ l) (sym (batches_in-append acts bs)))
           (second.reads (j ++ batches_in acts) (first.fits j fit));
       calls =
-          subst (λ (l : List Act). MakesAtMost (4 * length (batches_in l)) o o2)
-          (sym (append_assoc acts bs next))
-          (subst (λ (n : ℕ). MakesAtMost n o o2) (calls_add acts (bs ++ next))
-          (most_then (4 * length (batches_in acts)) (4 * length (batches_in (bs ++ next))) o o1 o2
-          first.calls second.calls));
+          subst (λ (n : ℕ). MakesAtMost n o o2) (calls_add acts bs (batches_in next))
+          (most_then (4 * length (batches_in acts)) (4 * length (batches_in next ++ batches_in bs)) o
+          o1 o2 first.calls second.calls);
       breaks =
           breaks_behind s.file s.end s1.end o o1 o2 first.appends
           (subst (λ (f : ℕ). BreaksAppends f s1.end o1 o2) first.file second.breaks);

@@ -1,5 +1,5 @@
 -- What each call of a store or of a host did, as acts.
-use Rattle.std.proofs.Common.{ℕ, List, ◌++◌, take, drop, sym, ap, ◌∙◌, append_assoc, ◌≡◌, ◌≢◌, ◌+◌, ◌*◌, ◌<◌, ◌≤◌, false, true, Bool, cond, nat_eq, eq-eqb, arith, [], ◌∷◌, append-nil, length, refl, subst, inl, inr, Some, Ok, Err, slice_index_or}
+use Rattle.std.proofs.Common.{ℕ, List, ◌++◌, take, drop, sym, ap, ◌∙◌, append_assoc, ◌≡◌, ◌≢◌, ◌+◌, ◌*◌, ◌<◌, ◌≤◌, false, true, Bool, cond, nat_eq, eq-eqb, arith, [], ◌∷◌, append-nil, length, length-append, refl, subst, inl, inr, Some, Ok, Err, slice_index_or}
 use Rattle.std.proofs.lemmas.List.{take-append-drop}
 use Rattle.outside.specs.Runs.{IsFront, TellsAll, sent_at}
 use Rattle.std.specs.Option.{option_map}
@@ -26,7 +26,7 @@ use Rattle.sync_store.specs.Runs.{RunsBy}
 use Rattle.sync_store.specs.Store.{StoreValue, written_in}
 use Rattle.sync_course.specs.Acts.{Act, AreQuiet, AtFront, Does, Fail, Send, batches_in, commit_acts, events_of, next_bytes, sends_on}
 use Rattle.sync_course.specs.Events.{Break, Commit, Event, Hear, Miss, Pass, Read, TellsEvents as Tells}
-use Rattle.sync_course.proofs.ActLaws.{batches_in_commits, commit_acts-append, commits_send, events_of_commits, quiet_events, quiet_front, quiet_sends}
+use Rattle.sync_course.proofs.ActLaws.{batches_in-append, batches_in_commits, commit_acts-append, commits_send, events_of_commits, quiet_events, quiet_front, quiet_sends}
 use Rattle.sync_course.proofs.ToldLaws.{told_broken, told_commits, told_quiet, told_sent}
 use Rattle.sync_node.specs.Batches.{Breaks}
 use Rattle.sync_node.specs.Courses.{FitsWith, ReadsAs, ReadsFront}
@@ -45,6 +45,17 @@ front_taken n a b = record {
 }
 
 -- ---- batches that were committed
+
+-- the calls of the batches of acts in two parts
+parts_calls : (acts first second : List Act) → acts ≡ first ++ second
+    → 4 * length (batches_in acts) ≡ 4 * length (batches_in second ++ batches_in first)
+parts_calls acts first second parts =
+    let all : length (batches_in acts) ≡ length (batches_in first) + length (batches_in second) =
+    ap (λ (l : List Act). length (batches_in l)) parts
+    ∙ ap (λ (l : Journal). length l) (batches_in-append first second)
+    ∙ length-append (batches_in first) (batches_in second) in
+    let turned = length-append (batches_in second) (batches_in first) in
+    omega (arith, all, turned)
 
 -- a moment between two of some batches
 pub at_batch : (clients : Meaning) (may j : Journal) (P : Journal → Type 0) (links : Links)
@@ -141,8 +152,10 @@ module _ (clients : Meaning) (s s' : StoreValue) (may : Journal) (o o' : Outside
         subst (λ (l : Journal). ReadsAs clients o'.files (j ++ l)) (sym (batches_in_commits stood.front))
         (stood.reads j fit);
     calls =
-        subst (λ (l : Journal). MakesAtMost (4 * length l) o o')
-        (sym (batches_in_commits may) ∙ ap (λ (l : List Act). batches_in l) (acts_parts stood)) made;
+        subst (λ (n : ℕ). MakesAtMost n o o')
+        (ap (λ (l : Journal). 4 * length l) (sym (batches_in_commits may))
+        ∙ parts_calls (commit_acts may) (commit_acts stood.front) (commit_acts stood.others)
+        (acts_parts stood)) made;
     breaks = appends.broken opened shut;
     moments =
         subst (λ (acts : List Act). ComesAtFronts clients acts s o o') (acts_parts stood) batch_fronts;
@@ -309,8 +322,8 @@ module _ (clients : Meaning) (s s' : StoreValue) (o o' : Outside) (acts : List A
               subst (λ (l : Journal). ReadsAs clients o'.files (j ++ l)) (sym two.has)
               (stood.reads j fit);
           calls =
-              subst (λ (l : List Act). MakesAtMost (4 * length (batches_in l)) o o') two.parts
-              quiet_calls;
+              subst (λ (n : ℕ). MakesAtMost n o o')
+              (parts_calls acts two.first two.second two.parts) quiet_calls;
           breaks = runs.calls.appends.broken opened shut;
           moments = subst (λ (l : List Act). ComesAtFronts clients l s o o') two.parts quiet_fronts;
         };

@@ -1,30 +1,23 @@
 -- Where calls led, one behind the other, on any machine whose steps are acts.
-use Rattle.std.proofs.Common.{◌≡◌, ◌⊎◌, true, false, List, [], ◌∷◌, ◌++◌, append-nil, refl, sym, ◌∙◌, ap, subst, inl, inr}
+use Rattle.std.proofs.Common.{◌≡◌, ◌⊎◌, List, [], ◌∷◌, ◌++◌, refl, sym, subst, inl, inr}
 use Rattle.outside.specs.Faults.{CountRose}
 use Rattle.outside.specs.Outside.{Outside}
 use Rattle.sync_rules.specs.Clients.{Meaning}
-use Rattle.sync_store.specs.Fitting.{FitsSome, ImagesStand}
-use Rattle.sync_store.specs.Gathering.{IsUnderway}
 use Rattle.sync_store.specs.Ready.{IsReady}
-use Rattle.sync_store.specs.Runs.{RunsBy}
-use Rattle.sync_store.specs.Store.{IsStore, StoreValue}
-use Rattle.sync_store.proofs.Gathered.{gathered_none, underway_begins}
+use Rattle.sync_store.specs.Store.{StoreValue}
 use Rattle.sync_rules.specs.declared.entries.Entry.{Entry}
 use Rattle.sync_rules.specs.Facts.{Journal}
-use Rattle.sync_course.specs.Acts.{Act, AreQuiet, Does, batches_in, commit_acts}
+use Rattle.sync_course.specs.Acts.{Act, Does, commit_acts}
 use Rattle.sync_course.specs.Events.{Commit}
 use Rattle.sync_course.specs.Owing.{Owing, OwesNothing}
-use Rattle.sync_course.specs.Paths.{Path}
-use Rattle.sync_course.proofs.ActLaws.{batches_in-append, quiet_append, quiet_behind}
-use Rattle.sync_course.proofs.PathLaws.{path_one, path_parts, path_then}
+use Rattle.sync_course.proofs.PathLaws.{path_one, path_then}
 use Rattle.sync_node.specs.declared.fault.Fault.{Fault}
 use Rattle.sync_node.specs.declared.fault.Fault.TheVariants as fault
 use Rattle.sync_node.specs.Batches.{CommitStops, NodeStaysIdle}
 use Rattle.sync_node.specs.Did.{Did, DidSome}
-use Rattle.sync_node.specs.Went.{Gathers, HasSoon, Stopped, StopsBroken, Went}
+use Rattle.sync_node.specs.Went.{HasSoon, Stopped, StopsBroken, Went}
 use Rattle.sync_node.proofs.DidLaws.{did_none, did_then, some_then}
 use Rattle.sync_node.proofs.CauseLaws.{rose_before}
-use Rattle.sync_node.proofs.PrimLaws.{did_quiet_acts, did_some_quiet}
 
 -- a front of one batch has it or not
 front_of_one : (b : List Entry) (front others : Journal) → b ∷ [] ≡ front ++ others
@@ -203,84 +196,3 @@ module _ {Q : Type 0} (clients : Meaning) (step : Owing Q → Act → Owing Q �
     }
     commit_stopped fault.DiskFault stops =
         by_front stops.front stops.others stops.parts stops.did stops.rose
-
--- ---- quiet acts of which some wait
-
-module _ {P : Type 0} (clients : Meaning) (step : P → Act → P → Type 0) where
-  pub gathers_none : ImagesStand → (p : P) (s : StoreValue) (o : Outside) → IsStore s
-      → IsReady clients s o.files → Gathers clients step p p s s o o
-  gathers_none images p s o store ready = record {
-    acts = [];
-    quiet = tt;
-    path = refl;
-    waits =
-        underway_begins clients images s s o [] store
-        (gathered_none clients s ready.still_open ready.none_waits);
-  }
-
-  -- further ones behind them
-  pub gathers_then : (p q r : P) (s s1 s2 : StoreValue) (o o1 o2 : Outside) (acts : List Act)
-      → AreQuiet acts → Path step q acts r → (first : Gathers clients step p q s s1 o o1)
-      → IsUnderway clients s s2 o o2 (batches_in first.acts ++ batches_in acts)
-      → Gathers clients step p r s s2 o o2
-  gathers_then p q r s s1 s2 o o1 o2 acts quiet path first waits = record {
-    acts = first.acts ++ acts;
-    quiet = quiet_append first.acts acts first.quiet quiet;
-    path = path_then step p q r first.acts acts first.path path;
-    waits =
-        subst (λ (bs : Journal). IsUnderway clients s s2 o o2 bs)
-        (sym (batches_in-append first.acts acts)) waits;
-  }
-
-  -- ones that commit nothing behind them
-  pub gathers_pass : (p q r : P) (s s1 : StoreValue) (o o1 : Outside) (acts : List Act)
-      → AreQuiet acts → batches_in acts ≡ [] → Path step q acts r
-      → Gathers clients step p q s s1 o o1 → Gathers clients step p r s s1 o o1
-  gathers_pass p q r s s1 o o1 acts quiet none path first =
-      gathers_then p q r s s1 s1 o o1 o1 acts quiet path first
-      (subst (λ (bs : Journal). IsUnderway clients s s1 o o1 bs)
-      (sym (append-nil (batches_in first.acts))
-      ∙ ap (λ (bs : Journal). batches_in first.acts ++ bs) (sym none)) first.waits)
-
-  -- all of them were added
-  pub gathers_went : (p q : P) (s s1 s' : StoreValue) (o o1 o' : Outside)
-      → FitsSome clients s o.files → s'.closed ≡ false
-      → (first : Gathers clients step p q s s1 o o1)
-      → RunsBy clients s s' o o' (batches_in first.acts) → Went clients step p q s s' o o'
-  gathers_went p q s s1 s' o o1 o' fits still first runs = record {
-    acts = first.acts;
-    path = first.path;
-    did = did_quiet_acts clients s s' o o' first.acts first.quiet fits runs still;
-  }
-
--- a call of the disk failed while they were added; the code has what stands behind them all
-pub gathers_broke : {Q : Type 0} (clients : Meaning) (step : Owing Q → Act → Owing Q → Type 0)
-    (Has : Owing Q → Type 0) (p q : Owing Q) (s s1 s' : StoreValue) (o o1 o' : Outside)
-    → FitsSome clients s o.files → s.closed ≡ false → s'.closed ≡ true
-    → CountRose o.disk_faults o'.disk_faults → HasSoon step Has q
-    → (first : Gathers clients step p q s s1 o o1)
-    → RunsBy clients s s' o o' (batches_in first.acts) → StopsBroken clients step Has p s s' o o'
-gathers_broke clients step Has p q s s1 s' o o1 o' fits opened shut rose soon first runs =
-    let some = did_some_quiet clients s s' o o' first.acts first.quiet fits runs opened shut in
-    let whole = subst (λ (acts : List Act). Path step p acts q) some.parts first.path in
-    let mid = path_parts step p q some.first some.second whole in
-    let quiet = quiet_behind some.first some.second
-    (subst (λ (acts : List Act). AreQuiet acts) some.parts first.quiet) in
-    record {
-      to = mid.0;
-      acts = some.first;
-      path = mid.1;
-      next = some.second;
-      quiet = quiet;
-      beyond = q;
-      goes_on = mid.2;
-      did = some.did;
-      stands = record {
-        acts = some.second ++ soon.acts;
-        quiet = quiet_append some.second soon.acts quiet soon.quiet;
-        next = soon.next;
-        path = path_then step mid.0 q soon.next some.second soon.acts mid.2 soon.path;
-        has = soon.has;
-      };
-      rose = rose;
-    }
