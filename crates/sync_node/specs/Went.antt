@@ -39,11 +39,13 @@ pub record HasSoon {P : Type 0} (step : P → Act → P → Type 0) (Has : P →
   pub path : Path step place acts next
   pub has : Has next
 
--- Memory was wanting: the calls led to some place, and the store is ready.
-pub record StopsReady {P : Type 0} (clients : Meaning) (step : P → Act → P → Type 0)
-    (Has : P → Type 0) (from : P) (s s' : StoreValue) (o o' : Outside) : Type 0 where
-  pub to : P
+-- Memory was wanting: the calls led to some place at which no bytes are owed, and the store is
+-- ready.
+pub record StopsReady {P : Type 0} (clients : Meaning) (step : Owing P → Act → Owing P → Type 0)
+    (Has : Owing P → Type 0) (from : Owing P) (s s' : StoreValue) (o o' : Outside) : Type 0 where
+  pub to : Owing P
   pub went : Went clients step from to s s' o o'
+  pub clear : OwesNothing to
   pub stands : HasSoon step Has to
   pub ready : IsReady clients s' o'.files
 
@@ -95,11 +97,12 @@ pub record Goes {P : Type 0} (clients : Meaning) (step : P → Act → P → Typ
   pub path : Path step from acts to
   pub under : Underway clients acts s s' o o'
 
--- Memory was wanting: what is under way leads to some place, and waits.
-pub record HaltsReady {P : Type 0} (clients : Meaning) (step : P → Act → P → Type 0)
-    (Has : P → Type 0) (from : P) (s s' : StoreValue) (o o' : Outside) : Type 0 where
-  pub to : P
+-- Memory was wanting: what is under way leads to some place at which no bytes are owed, and waits.
+pub record HaltsReady {P : Type 0} (clients : Meaning) (step : Owing P → Act → Owing P → Type 0)
+    (Has : Owing P → Type 0) (from : Owing P) (s s' : StoreValue) (o o' : Outside) : Type 0 where
+  pub to : Owing P
   pub went : Goes clients step from to s s' o o'
+  pub clear : OwesNothing to
   pub stands : HasSoon step Has to
   pub waits : IsGathering clients s' o'.files
 
