@@ -13,6 +13,7 @@ pub mod WentLaws
 pub mod PrimLaws
 pub mod BatchLaws
 mod LinkActs
+mod GroupLaws
 mod SendActs
 mod RunActLaws
 pub mod StartActs

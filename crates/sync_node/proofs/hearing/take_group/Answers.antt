@@ -1,9 +1,8 @@
-use Rattle.std.proofs.Common.{refl, ap}
+use Rattle.std.proofs.Common.{refl, ap, sym}
 use Rattle.sync_node.specs.declared.fault.Fault.TheVariants as fault
-use Rattle.sync_node.proofs.KeepLaws.{gather_broke, gather_failed, gather_flushed, gather_stopped}
-use Rattle.sync_node.proofs.KeepLaws.{may_begin, works_was}
-use Rattle.sync_node.proofs.LinkActs.{items_broken, items_flushed, items_full_broke}
-use Rattle.sync_node.proofs.LinkActs.{items_starved_broke, piece_broke, piece_flushed}
+use Rattle.sync_node.proofs.GroupLaws.{group_ends, group_failed, group_full_broke, group_starved_broke}
+use Rattle.sync_node.proofs.GroupLaws.{group_stops}
+use Rattle.sync_node.proofs.KeepLaws.{may_begin}
 use Rattle.sync_node.proofs.hearing.take_group.Goals as goal
 
 pub take_piece-requires-clause-may : goal.take_piece-requires-clause-may
