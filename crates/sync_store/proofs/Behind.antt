@@ -22,6 +22,7 @@ use Rattle.sync_store.specs.Gathering.{AddsBehind, GathersBehind, IsAdded, IsUnd
 use Rattle.sync_store.specs.Gathering.{JoinsBehind, KeepsBatches, KeepsJournal, MakesRoom}
 use Rattle.sync_store.specs.Groups.{AddsAll, HasGathered, IsGathering}
 use Rattle.sync_store.specs.Moments.{groups_for}
+use Rattle.sync_store.specs.Waiting.{frames_in}
 use Rattle.sync_store.proofs.FitSteps.{true≢false}
 use Rattle.sync_store.proofs.Gathered.{flush_added, gathered_none, gathering_still}
 use Rattle.sync_store.proofs.Gathered.{underway_begins, underway_ends, underway_on}
@@ -181,7 +182,8 @@ module _ (clients : Meaning) where
         g.joined;
     together = λ rest.
         g.together rest
-        ∙ ap (λ w. groups_for (written_in before) (group_len w) rest) (sym stays.waiting);
+        ∙ ap (λ w. groups_for (written_in before) (group_len w) (frames_in w) rest)
+        (sym stays.waiting);
     kinds = g.kinds;
     within = g.within;
   }

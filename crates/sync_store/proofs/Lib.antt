@@ -8,6 +8,7 @@ mod Framing
 mod FitSteps
 mod GroupSteps
 mod GroupAppends
+mod Counting
 mod GroupCounts
 pub mod Gathered
 pub mod Behind

@@ -11,6 +11,7 @@ use Rattle.sync_rules.specs.Left.{left_of}
 use Rattle.sync_rules.specs.Legal.{AllSettling}
 use Rattle.sync_rules.specs.Steps.{IsSettled}
 use Rattle.sync_store.specs.Store.{IsStore, StoreValue, written_in}
+use Rattle.sync_store.specs.Waiting.{frames_in}
 use Rattle.sync_store.specs.Commits.{GainsBatch, needed}
 use Rattle.sync_store.specs.Groups.{HasGathered}
 use Rattle.sync_store.specs.Moments.{groups_for}
@@ -42,16 +43,17 @@ pub record IsUnderway (clients : Meaning) (before s : StoreValue) (o o' : Outsid
   pub runs : RunsBy clients before mid o o' done
   pub gathered : HasGathered clients mid s rest
   -- as many groups were added as the frames take
-  pub counted : (more : List (List Entry)) → groups_for (written_in before) 0 (all ++ more)
-      ≡ runs.groups + groups_for (written_in before) (group_len s.waiting) more
+  pub counted : (more : List (List Entry)) → groups_for (written_in before) 0 0 (all ++ more)
+      ≡ runs.groups
+      + groups_for (written_in before) (group_len s.waiting) (frames_in s.waiting) more
 
 -- all of these batches were added, in as few groups as the frames take
 pub record IsAdded (clients : Meaning) (before s : StoreValue) (o o' : Outside)
     (all : List (List Entry)) : Type 0 where
   pub runs : RunsBy clients before s o o' all
-  pub counted : runs.groups ≡ groups_for (written_in before) 0 all
+  pub counted : runs.groups ≡ groups_for (written_in before) 0 0 all
 
--- what making room for the longest frame comes to, behind batches that wait
+-- what making room for one batch more comes to, behind batches that wait
 abbrev pub MakesRoom : Meaning → StoreValue → StoreValue → List (List Entry)
     → Result (Unit {0}) StoreFault → Outside → Outside → Type 0
 MakesRoom clients before s waits (Ok u) o o' = IsUnderway clients before s o o' waits
@@ -126,10 +128,6 @@ pub record GathersSteps (clients : Meaning) (old new : StoreValue)
   pub end : new.end ≡ old.end + settling_len (written_in old) more
   pub gathers : (before : StoreValue) → (waits : List (List Entry))
       → HasGathered clients before old waits → HasGathered clients before new (waits ++ more)
-  -- it joined those that waited
-  pub joins : (rest : List (List Entry))
-      → groups_for (written_in old) (group_len old.waiting) (more ++ rest)
-      ≡ groups_for (written_in old) (group_len new.waiting) rest
   pub closed : new.closed ≡ false
   pub answer : GathersSo clients old new more result
 

@@ -1,9 +1,7 @@
 //! Batches whose frames wait in the store, to be added to the journal together.
-ghost use Rattle.std.specs.Prelude.{◌≡◌, ◌+◌, ◌≤◌, ◌++◌, ◌∷◌, [], false, true, length, nat_le};
+ghost use Rattle.std.specs.Prelude.{◌≡◌, ◌++◌, ◌∷◌, [], false, true};
 ghost use Rattle.std.specs.Prelude.{List, IfErr, IsErrOf, OnOk};
-ghost use Rattle.frame_journal.specs.Group.{flush_calls};
-ghost use Rattle.frame_journal.specs.declared.group.TheConstants.{MAX_GROUP};
-ghost use Rattle.outside.specs.declared.limits.TheConstants.{MAX_FRAME};
+ghost use Rattle.frame_journal.specs.Group.{flush_calls, group_len};
 ghost use Rattle.outside.specs.Faults.{CountRose, HasCause};
 ghost use Rattle.outside.specs.Outside.{DiskRun, MakesCalls};
 ghost use Rattle.journal_state.specs.Taking.{HasRoom};
@@ -18,20 +16,21 @@ ghost use Rattle.sync_store.specs.Gathering.{JoinsBehind};
 ghost use Rattle.sync_store.specs.Groups.{AddsAll, HasGathered, HasGroupRoom, IsGathering};
 ghost use Rattle.sync_store.specs.Ready.{IsReady};
 ghost use Rattle.sync_store.specs.Store.{IsStore, StoreValue};
+ghost use Rattle.sync_store.specs.Waiting.{frames_in, has_place};
 
 use crate::StoreFault;
 use crate::laws::{cite_laws, images_stand};
 use crate::store::Store;
-use outside::{Disk, MAX_FRAME};
+use outside::Disk;
 use sync_ids::MessageId;
 use sync_rules::{Batch, Clients};
 
 impl Store {
-    // Whether the longest frame finds room behind those that wait.
+    // Whether one batch more may wait, whatever its length.
     pub(crate) fn has_group_room(&self) -> bool
-        ensures { result ≡ nat_le (length self.now.waiting + (MAX_FRAME + 5)) (MAX_GROUP + 1) }
+        ensures { result ≡ has_place (group_len self.now.waiting) (frames_in self.now.waiting) }
     {
-        self.waiting.has_room(MAX_FRAME as usize + 5)
+        self.waiting.has_place()
     }
 
     /// Takes a batch into the store as `commit_known` does, but its frame waits behind those of
@@ -158,7 +157,7 @@ impl Store {
     {
         let _meaning = clients;
         cite_laws();
-        match self.journal.flush(disk, &mut self.waiting) {
+        match self.waiting.flush(disk, &mut self.journal) {
             Ok(()) => Ok(()),
             Err(_) => {
                 self.closed = true;
