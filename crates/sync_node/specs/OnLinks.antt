@@ -134,6 +134,22 @@ pub record PieceWent (piece : List ℕ) (clients : Meaning) (n : ℕ) (l l' : Li
       → LinkUnder clients n l.session.number (spot_at (Takes its) l heard moved s.state.facts)
       (spot_at Waits l' heard moved s'.state.facts) s s' o o'
 
+-- ---- a piece, once what waited of it was added
+
+pub record PieceTaken (piece : List ℕ) (clients : Meaning) (n : ℕ) (l l' : Link)
+    (s s' : StoreValue) (o o' : Outside) (u : Unit {0}) : Type 0 where
+  pub has_read : (heard : List ℕ) (its : List Item) → IsReading heard piece l.reader its
+      → l'.end ≡ link_end.Going → HasRead heard l'.reader
+  pub went : (heard : List ℕ) (its : List Item) (moved : Bool) → IsReading heard piece l.reader its
+      → LinkWent clients n l.session.number (spot_at (Takes its) l heard moved s.state.facts)
+      (spot_at Waits l' heard moved s'.state.facts) s s' o o'
+
+pub record ItemsStopped (piece : List ℕ) (clients : Meaning) (n : ℕ) (l l' : Link)
+    (s s' : StoreValue) (o o' : Outside) (e : Fault) : Type 0 where
+  pub stops : (heard : List ℕ) (its : List Item) (moved : Bool) → IsReading heard piece l.reader its
+      → LinkStopped clients n l.session.number
+      (spot_at (Takes its) l heard moved s.state.facts) (link_at l' heard) s s' o o' e
+
 -- ---- hearing
 
 pub record HeardTo (clients : Meaning) (n : ℕ) (l l' : Link) (s s' : StoreValue) (o o' : Outside)

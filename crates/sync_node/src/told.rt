@@ -38,6 +38,13 @@ pub(crate) fn cite_laws()
     rests_give_nothing();
 }
 
+// What every store keeps.
+pub(crate) fn cite_store(store: &Store)
+    ensures { IsStore store.now }
+{
+    let _closed = store.is_closed();
+}
+
 /// Commits a batch, one of a run, with the id of the one message that it brings where the caller
 /// has it. `went`: the batch stands behind the journal, and nothing else was done. `stopped`: for
 /// want of memory or of room nothing was done; where a call of the disk failed, a crash may leave

@@ -22,7 +22,7 @@ use Rattle.sync_store.specs.Store.{IsStore, NoneWaits, StoreValue, format_meant,
 use Rattle.sync_store.specs.Appending.{AppendsFor}
 use Rattle.sync_store.specs.Commits.{KeepsStore}
 use Rattle.sync_store.specs.Fitting.{FitsSome, ImagesStand}
-use Rattle.sync_store.specs.Gathering.{GathersSteps, IsAdded, IsUnderway, KeepsJournal}
+use Rattle.sync_store.specs.Gathering.{IsAdded, IsUnderway, KeepsJournal}
 use Rattle.sync_store.specs.Gathering.{MakesRoom}
 use Rattle.sync_store.specs.Groups.{AddsAll, HasGathered, HasGroupRoom, IsGathering, NoneOrAll}
 use Rattle.sync_store.specs.Moments.{IsBetween, groups_for}
@@ -179,11 +179,12 @@ module _ (clients : Meaning) where
         );
   }
 
-  -- one piece behind the other
-  pub underway_then : (before s1 s2 : StoreValue) (o0 o1 o2 : Outside) (all : List (List Entry))
-      (u : IsUnderway clients before s1 o0 o1 all) → IsUnderway clients u.mid s2 o1 o2 u.rest
-      → IsUnderway clients before s2 o0 o2 all
-  underway_then before s1 s2 o0 o1 o2 all u v =
+  -- one piece behind the other, with further batches
+  pub underway_on : (before s1 s2 : StoreValue) (o0 o1 o2 : Outside) (all more : List (List Entry))
+      (u : IsUnderway clients before s1 o0 o1 all)
+      → IsUnderway clients u.mid s2 o1 o2 (u.rest ++ more)
+      → IsUnderway clients before s2 o0 o2 (all ++ more)
+  underway_on before s1 s2 o0 o1 o2 all more u v =
       let same : written_in u.mid ≡ written_in before = ap format_meant u.runs.format in
       let both = runs_both clients before u.mid v.mid o0 o1 o2 u.done v.done u.gathered.opened u.runs
       v.runs in
@@ -192,74 +193,50 @@ module _ (clients : Meaning) where
         kept = v.kept;
         done = u.done ++ v.done;
         rest = v.rest;
-        parts = append_assoc u.done v.done v.rest ∙ ap (λ l. u.done ++ l) v.parts ∙ u.parts;
+        parts = append_assoc u.done v.done v.rest ∙ ap (λ l. u.done ++ l) v.parts
+            ∙ sym (append_assoc u.done u.rest more) ∙ ap (λ l. l ++ more) u.parts;
         runs = both.0;
         gathered = v.gathered;
-        counted = λ more.
+        counted = λ rest.
             let kind = written_in before in
             let later =
-            subst (λ (k : Format). groups_for k 0 (u.rest ++ more)
-            ≡ v.runs.groups + groups_for k (group_len s2.waiting) more) same (v.counted more) in
+            subst (λ (k : Format). groups_for k 0 ((u.rest ++ more) ++ rest)
+            ≡ v.runs.groups + groups_for k (group_len s2.waiting) rest) same (v.counted rest) in
             let here =
-            subst (λ (k : Format). groups_for k 0 (u.rest ++ more)
-            ≡ groups_for k (group_len s1.waiting) more) same (u.gathered.together more) in
-            omega (arith, u.counted more, later, here, both.1);
+            subst (λ (k : Format). groups_for k 0 (u.rest ++ (more ++ rest))
+            ≡ groups_for k (group_len s1.waiting) (more ++ rest)) same
+            (u.gathered.together (more ++ rest)) in
+            omega (
+              arith,
+              u.counted (more ++ rest),
+              later,
+              here,
+              both.1,
+              ap (groups_for kind 0) (append_assoc all more rest),
+              ap (groups_for kind 0) (append_assoc u.rest more rest),
+            );
       }
 
   -- and then all were added
-  pub underway_ends : (before s1 s2 : StoreValue) (o0 o1 o2 : Outside) (all : List (List Entry))
-      (u : IsUnderway clients before s1 o0 o1 all) → IsAdded clients u.mid s2 o1 o2 u.rest
-      → IsAdded clients before s2 o0 o2 all
-  underway_ends before s1 s2 o0 o1 o2 all u a =
+  pub underway_ends : (before s1 s2 : StoreValue) (o0 o1 o2 : Outside)
+      (all more : List (List Entry)) (u : IsUnderway clients before s1 o0 o1 all)
+      → IsAdded clients u.mid s2 o1 o2 (u.rest ++ more)
+      → IsAdded clients before s2 o0 o2 (all ++ more)
+  underway_ends before s1 s2 o0 o1 o2 all more u a =
       let same : written_in u.mid ≡ written_in before = ap format_meant u.runs.format in
       let kind = written_in before in
-      let later : a.runs.groups ≡ groups_for kind 0 u.rest =
-      a.counted ∙ ap (λ (k : Format). groups_for k 0 u.rest) same in
+      let later : a.runs.groups ≡ groups_for kind 0 (u.rest ++ more) =
+      a.counted ∙ ap (λ (k : Format). groups_for k 0 (u.rest ++ more)) same in
       let here =
-      subst (λ (k : Format). groups_for k 0 (u.rest ++ [])
-      ≡ groups_for k (group_len s1.waiting) []) same (u.gathered.together []) in
-      let both = runs_both clients before u.mid s2 o0 o1 o2 u.done u.rest u.gathered.opened u.runs
-      a.runs in
-      let count : both.0.groups ≡ groups_for kind 0 (u.done ++ u.rest) =
-      omega (
-        arith,
-        both.1,
-        later,
-        here,
-        ap (groups_for kind 0) (append-nil u.rest),
-        u.counted [],
-        ap (groups_for kind 0) (append-nil all ∙ sym u.parts),
-      ) in
-      subst (IsAdded clients before s2 o0 o2) u.parts (record { runs = both.0; counted = count })
-
-  -- a settling batch more waits
-  pub underway_more : (before s1 s2 : StoreValue) (o0 o1 : Outside) (all : List (List Entry))
-      (result : Result (Unit {0}) StoreFault) (u : IsUnderway clients before s1 o0 o1 all)
-      (steps : GathersSteps clients s1 s2 result)
-      → IsUnderway clients before s2 o0 o1 (all ++ steps.more)
-  underway_more before s1 s2 o0 o1 all result u steps =
-      let same : written_in s1 ≡ written_in before =
-      ap format_meant (u.gathered.format ∙ u.runs.format) in
-      record {
-        mid = u.mid;
-        kept = u.kept;
-        done = u.done;
-        rest = u.rest ++ steps.more;
-        parts = sym (append_assoc u.done u.rest steps.more) ∙ ap (λ l. l ++ steps.more) u.parts;
-        runs = u.runs;
-        gathered = steps.gathers u.mid u.rest u.gathered;
-        counted = λ more.
-            let kind = written_in before in
-            let joins =
-            subst (λ (k : Format). groups_for k (group_len s1.waiting) (steps.more ++ more)
-            ≡ groups_for k (group_len s2.waiting) more) same (steps.joins more) in
-            omega (
-              arith,
-              ap (groups_for kind 0) (append_assoc all steps.more more),
-              u.counted (steps.more ++ more),
-              joins,
-            );
-      }
+      subst (λ (k : Format). groups_for k 0 (u.rest ++ more)
+      ≡ groups_for k (group_len s1.waiting) more) same (u.gathered.together more) in
+      let both = runs_both clients before u.mid s2 o0 o1 o2 u.done (u.rest ++ more)
+      u.gathered.opened u.runs a.runs in
+      let parts : u.done ++ (u.rest ++ more) ≡ all ++ more =
+      sym (append_assoc u.done u.rest more) ∙ ap (λ l. l ++ more) u.parts in
+      let count : both.0.groups ≡ groups_for kind 0 (u.done ++ (u.rest ++ more)) =
+      omega (arith, both.1, later, here, u.counted more, ap (groups_for kind 0) parts) in
+      subst (IsAdded clients before s2 o0 o2) parts (record { runs = both.0; counted = count })
 
   -- at the end of a run the disk fits the store
   pub runs_fits : (s new : StoreValue) (o o' : Outside) (more : List (List Entry))

@@ -9,7 +9,8 @@ mod FitSteps
 mod GroupSteps
 mod GroupAppends
 mod GroupCounts
-mod Gathered
+pub mod Gathered
+pub mod Behind
 mod SettleLoop
 mod Steps
 mod SettleSteps

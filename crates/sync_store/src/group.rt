@@ -20,7 +20,7 @@ ghost use Rattle.sync_store.specs.Ready.{IsReady};
 ghost use Rattle.sync_store.specs.Store.{IsStore, StoreValue};
 
 use crate::StoreFault;
-use crate::laws::cite_laws;
+use crate::laws::{cite_laws, images_stand};
 use crate::store::Store;
 use outside::{Disk, MAX_FRAME};
 use sync_ids::MessageId;
@@ -61,6 +61,7 @@ impl Store {
         ensures fault { IsErrOf result StoreFault.DiskFault
             → CountRose (D.tells disk.old).disk_faults (D.tells disk.new).disk_faults }
     {
+        images_stand();
         self.make_room(disk, clients)?;
         self.gather(clients, batch, id)
     }
