@@ -1,5 +1,5 @@
 -- Outputs that are committed and sent, as steps of a link's turn, and a whole turn.
-use Rattle.std.proofs.Common.{◌≡◌, ℕ, zero, suc, ◌+◌, ◌<◌, ◌≤◌, Bool, true, false, cond, nat_eq, List, [], ◌∷◌, ◌++◌, append-nil, length, length-append, refl, sym, ◌∙◌, ap, subst, inl, inr, arith, Result, Ok, Err}
+use Rattle.std.proofs.Common.{◌≡◌, ℕ, zero, suc, ◌+◌, ◌<◌, ◌≤◌, Bool, true, false, cond, nat_eq, List, [], ◌∷◌, ◌++◌, append-nil, length, length-append, refl, sym, ◌∙◌, ap, subst, inl, inr, arith, Option, None, Some, Result, Ok, Err}
 use Rattle.std.specs.Prelude.{nat_lt, IfErr, IfOk}
 use Rattle.std.proofs.lemmas.Bool.{cases_eq, false≢true, lt-ltb, ne_eqb}
 use Rattle.entry_codec.specs.Standing.{room_of}
@@ -18,9 +18,11 @@ use Rattle.sync_rules.specs.Facts.{Facts, Journal, after_all}
 use Rattle.sync_rules.specs.Legal.{Allowed}
 use Rattle.sync_rules.specs.Output.{out_records}
 use Rattle.sync_rules.specs.Steps.{IsSettled}
+use Rattle.sync_rules.proofs.StepKinds.{settled_stays}
 use Rattle.sync_store.specs.Commits.{needed}
 use Rattle.sync_store.specs.Fitting.{ImagesStand}
 use Rattle.sync_store.specs.Gathering.{KeepsJournal}
+use Rattle.sync_store.specs.Groups.{IsGathering}
 use Rattle.sync_store.specs.Ready.{IsReady}
 use Rattle.sync_store.specs.Store.{IsStore, StoreValue, format_meant, written_in}
 use Rattle.sync_course.specs.Acts.{Act, Does, Fail, Send, batches_in}
@@ -38,17 +40,19 @@ use Rattle.sync_node.specs.declared.link.Link.{Link}
 use Rattle.sync_node.specs.Batches.{Flushed, JoinHalts, Joined, StoreStaysIdle}
 use Rattle.sync_node.specs.Courses.{IsReadyToSend, link_at, sends_on, spot_at}
 use Rattle.sync_node.specs.Did.{Did, UnderwayBreaks}
-use Rattle.sync_node.specs.Keeps.{StaysGathering}
+use Rattle.sync_node.specs.Keeps.{GatherWorks, LinkGathers, LinkKeeps, LinkWorks, StaysGathering, stop_of}
 use Rattle.sync_node.specs.Sending.{EndsBy, MaySend, SendsOn, SendsOuts, has_broken, outs_answer}
 use Rattle.sync_node.specs.Went.{Makes, Went}
-use Rattle.sync_node.specs.Working.{MayGather}
+use Rattle.sync_node.specs.Working.{IsAble, MayGather}
 use Rattle.sync_node.specs.OnLinks.{DueStopped, DueWent, LinkActs, LinkMakes, LinkStopped, LinkWent, OutsWent, SendingStopped, SendingWent, HearingStopped, HearingWent, TurnWent}
 use Rattle.sync_node.specs.OnLinks.{MakesUnder, OutHalted, OutJoined, OutsBroke, OutsHalted, OutsJoined, OutsOver, OutsUnder, owing_on, puts_on}
+use Rattle.sync_node.proofs.CauseLaws.{link_kept, link_sent}
+use Rattle.sync_node.proofs.KeepLaws.{able_kept, gather_flushed, gathering_then, gathers_left, join_left, memory_keeps, work_link, work_then}
 use Rattle.sync_node.proofs.OutLaws.{kept_by, may_end, may_not_end, sent_session, still_so}
 use Rattle.sync_node.proofs.DidLaws.{did_none, did_then}
 use Rattle.sync_node.proofs.LinkActs.{link_does, link_joins, link_no_memory, link_pass, link_stays, link_stops_then}
 use Rattle.sync_node.proofs.PrimLaws.{did_fail, did_pass, did_quiet, did_send, off_link, on_link}
-use Rattle.sync_node.proofs.UnderLaws.{gone_flushed, gone_none, gone_then, halted_broken, over_flushed, under_passed}
+use Rattle.sync_node.proofs.UnderLaws.{gone_flushed, gone_none, gone_then, halted_broken, over_flushed, stopped_broken, under_none, under_passed}
 use Rattle.sync_node.proofs.WentLaws.{has_now, went_one, went_then}
 use Rattle.sync_node.proofs.WorkLaws.{goes_read}
 use Rattle.sync_course.specs.Reading.{HasRead}
@@ -268,16 +272,52 @@ module _ (clients : Meaning) (n now : ℕ) (what : Out) (l : Link) (s : StoreVal
     out_joined made made' bytes bytes' one is =
         record { one_more = one; goes = goes_out made bytes bytes' is }
 
-  pub out_halted : (made : ℕ) (bytes : List ℕ) (s' : StoreValue) (o o' : Outside) (e : Fault)
-      → JoinHalts clients its_batch s s' o o' e
-      → OutHalted now made bytes made bytes clients n l l s s' o o' e
-  out_halted made bytes s' o o' e halts = record {
+  pub out_halted : (made : ℕ) (bytes bytes' : List ℕ) → bytes' ≡ bytes → (s' : StoreValue)
+      (o o' : Outside) (e : Fault) → JoinHalts clients its_batch s s' o o' e
+      → OutHalted now made bytes made bytes' clients n l l s s' o o' e
+  out_halted made bytes bytes' same s' o o' e halts = record {
     same_made = refl;
-    same_bytes = refl;
+    same_bytes = same;
     what = what;
     allowed = allowed;
     halts = halts;
   }
+
+  -- memory was wanting before it was committed
+  pub out_starved : ImagesStand → (o : Outside) → IsGathering clients s o.files → (made : ℕ)
+      (bytes bytes' : List ℕ) → bytes' ≡ bytes
+      → OutHalted now made bytes made bytes' clients n l l s s o o fault.Memory
+  out_starved images o waits made bytes bytes' same =
+      out_halted made bytes bytes' same s o o fault.Memory
+      (record { under = under_none images clients s o; facts = refl; waits = waits })
+
+  -- what committing it keeps
+  pub out_keeps : (s1 : StoreValue) (o o1 : Outside) → IsSettled clients s.state.facts
+      → Joined clients its_batch s s1 o o1 → LinkGathers clients n l l s s1 o o1 None
+  out_keeps s1 o o1 settled joins = record {
+    link = link_kept joins.under.goes refl refl;
+    store = record {
+      same_limit = joins.under.limit;
+      same_format = joins.under.format;
+      answered = record {
+        waits = joins.waits;
+        settled =
+            subst (λ (f : Facts). IsSettled clients f) (sym joins.facts)
+            (settled_stays clients s.state.facts its_batch refl settled);
+        same_sessions = ap (λ (f : Facts). f.sessions) joins.facts;
+        same_begun = ap (λ (f : Facts). f.begun) joins.facts;
+      };
+    };
+  }
+
+  pub out_halt_keeps : (s' : StoreValue) (o o' : Outside) (e : Fault)
+      → JoinHalts clients its_batch s s' o o' e → LinkGathers clients n l l s s' o o' (Some e)
+  out_halt_keeps s' o o' e halts =
+      let left = join_left clients its_batch s s' o o' e halts in
+      record {
+        link = link_kept left.goes refl refl;
+        store = gathers_left (StaysGathering clients s s' o') clients s s' o o' e left;
+      }
 
 -- ---- outputs, one behind the other
 
@@ -301,17 +341,6 @@ makes_under_then clients step p q r s s1 s2 o o1 o2 a b first second = record {
       ∙ length-append (batches_in first.goes.acts) (batches_in second.goes.acts)
       ∙ ap (λ (x : ℕ). x + length (batches_in second.goes.acts)) first.counts
       ∙ ap (λ (x : ℕ). a + x) second.counts;
-}
-
--- a store that gathers, one piece of work behind the other
-gathering_on : (clients : Meaning) (s s1 s2 : StoreValue) (o1 o2 : Outside)
-    → StaysGathering clients s s1 o1 → StaysGathering clients s1 s2 o2
-    → StaysGathering clients s s2 o2
-gathering_on clients s s1 s2 o1 o2 first second = record {
-  waits = second.waits;
-  settled = second.settled;
-  same_sessions = second.same_sessions ∙ first.same_sessions;
-  same_begun = second.same_begun ∙ first.same_begun;
 }
 
 idle_stays : (clients : Meaning) (s s' : StoreValue) (o o' : Outside)
@@ -390,7 +419,7 @@ module _ (clients : Meaning) (n now : ℕ) (l : Link) (s : StoreValue) (o : Outs
         room = left;
         rest = omega (arith, a.rest, (room_left now made a.room a.rest less).1);
         none = λ never. absurd (omega (arith, never));
-        stays = gathering_on clients s s1 s2 o1 o2 a.stays stays;
+        stays = gathering_then clients s s1 s2 o1 o2 a.stays stays;
         goes = λ heard moved first at.
             let moved1 : Bool = cond (nat_lt 0 made) true moved in
             let step = LinkActs clients first n in
@@ -423,7 +452,7 @@ module _ (clients : Meaning) (n now : ℕ) (l : Link) (s : StoreValue) (o : Outs
       room = a.room;
       rest = a.rest;
       none = a.none;
-      stays = gathering_on clients s s1 s2 o1 o2 a.stays (idle_stays clients s1 s2 o1 o2 a.stays.settled idle);
+      stays = gathering_then clients s s1 s2 o1 o2 a.stays (idle_stays clients s1 s2 o1 o2 a.stays.settled idle);
       goes = λ heard moved first at.
           let step = LinkActs clients first n in
           let to : Facts → Owing Spot =
@@ -787,6 +816,100 @@ module _ (clients : Meaning) (n now made : ℕ) (bytes : List ℕ) (l l' : Link)
   outs_come (Err fault.Full) whole ok err true is = (tt, outs_filled is err)
   outs_come (Err fault.Full) whole ok err false is = (outs_closed is, tt)
   outs_come (Err fault.DiskFault) whole ok err is_open is = cc
+
+-- a call of the disk failed before anything was sent
+pub due_broken : (clients : Meaning) (n now : ℕ) (l : Link) (s s' : StoreValue) (o o' : Outside)
+    → IsStore s → IsReady clients s o.files → OutsBroke now clients n l s s' o o'
+    → DueStopped now clients n l l s s' o o' fault.DiskFault
+due_broken clients n now l s s' o o' store ready broke = record {
+  stops = λ heard moved first at.
+      stopped_broken clients (LinkActs clients first n)
+      (λ (q : Owing Spot). q.at.link ≡ link_at l heard)
+      (paid (spot_at (Sends now MAX_OUTPUTS) l heard moved s.state.facts)) s s' o o' store ready
+      (broke.halts heard moved first at);
+}
+
+pub broken_of : (clients : Meaning) (n now made : ℕ) (bytes : List ℕ) (l : Link)
+    (s s1 : StoreValue) (o o1 : Outside) (joined : Result (Unit {0}) Fault)
+    → has_broken joined ≡ true
+    → IfErr joined (OutsHalted now made bytes clients n l l s s1 o o1)
+    → LinkGathers clients n l l s s1 o o1 (stop_of joined)
+    → OutsBroke now clients n l s s1 o o1 × LinkGathers clients n l l s s1 o o1 (Some fault.DiskFault)
+broken_of clients n now made bytes l s s1 o o1 (Ok u) broken halted keeps = cc
+broken_of clients n now made bytes l s s1 o o1 (Err fault.Memory) broken halted keeps = cc
+broken_of clients n now made bytes l s s1 o o1 (Err fault.Full) broken halted keeps = cc
+broken_of clients n now made bytes l s s1 o o1 (Err fault.DiskFault) broken halted keeps =
+    (halted, keeps)
+
+-- what sending them keeps
+outs_keep_sent : {H : Type 0} (tells : H → Outside) (clients : Meaning) (n : ℕ) (l l' : Link)
+    (s s2 : StoreValue) (o : Outside) (host host' : H) → IsAble clients n l.session s o
+    → LinkKeeps clients n l l s s2 o (tells host) None → (made : ℕ) (bytes : List ℕ)
+    → SendsOuts made n bytes l l' host host' (tells host) (tells host')
+    → LinkKeeps clients n l l' s s2 o (tells host') None
+outs_keep_sent tells clients n l l' s s2 o host host' able keeps zero bytes sends =
+    subst (λ (x : Link). LinkKeeps clients n l x s s2 o (tells host') None) (sym sends.0)
+    (subst (λ h. LinkKeeps clients n l l s s2 o (tells h) None) (sym sends.1) keeps)
+outs_keep_sent tells clients n l l' s s2 o host host' able keeps (suc made) bytes sends =
+    work_then keeps
+    (work_link (link_sent sends) sends.call.same_files (able_kept able keeps))
+
+keeps_answer : (clients : Meaning) (n made : ℕ) (l l' : Link) (s s' : StoreValue) (o o' : Outside)
+    → LinkKeeps clients n l l' s s' o o' None → (joined : Result (Unit {0}) Fault)
+    → has_broken joined ≡ false → (is_open : Bool)
+    → LinkKeeps clients n l l' s s' o o' (stop_of (outs_answer joined made is_open))
+keeps_answer clients n made l l' s s' o o' keeps (Ok u) whole is_open = keeps
+keeps_answer clients n made l l' s s' o o' keeps (Err fault.Memory) whole is_open =
+    memory_keeps keeps
+keeps_answer clients n made l l' s s' o o' keeps (Err fault.Full) whole true = record {
+  link = keeps.link;
+  store = record {
+    same_limit = keeps.store.same_limit;
+    same_format = keeps.store.same_format;
+    answered = keeps.store.answered.ready;
+  };
+}
+keeps_answer clients n made l l' s s' o o' keeps (Err fault.Full) whole false = keeps
+keeps_answer clients n made l l' s s' o o' keeps (Err fault.DiskFault) whole is_open = cc
+
+-- and so, by what stopped it
+pub outs_work : {H : Type 0} (tells : H → Outside) (clients : Meaning) (n now made : ℕ)
+    (bytes : List ℕ) (l l' : Link) (s s1 s2 : StoreValue) (o o1 : Outside) (host host' : H)
+    → IsStore s → IsAble clients n l.session s o → MaySend l.end
+    → Flushed clients s1 s2 o1 (tells host) → ImagesStand → n < (tells host).links.dialled
+    → SendsOuts made n bytes l l' host host' (tells host) (tells host')
+    → (joined : Result (Unit {0}) Fault) → has_broken joined ≡ false
+    → GatherWorks (OutsJoined now made bytes) (OutsHalted now made bytes) clients n l l s s1 o o1
+    joined
+    → (is_open : Bool) → is_sent_to l'.end ≡ is_open → (r : Result ℕ Fault)
+    → r ≡ outs_answer joined made is_open
+    → LinkWorks (DueWent now) (DueStopped now) clients n l l' s s2 o (tells host') r
+outs_work tells clients n now made bytes l l' s s1 s2 o o1 host host' store able may flushed stand within sends joined whole works is_open is r answer =
+    let under = under_of clients n now made bytes l s s1 o o1 joined whole works.went works.halted in
+    let first : LinkGathers clients n l l s s1 o o1 None = record {
+      link = works.keeps.link;
+      store = record {
+        same_limit = works.keeps.store.same_limit;
+        same_format = works.keeps.store.same_format;
+        answered = under.stays;
+      };
+    } in
+    let keeps =
+    outs_keep_sent tells clients n l l' s s2 o host host' able (gather_flushed first flushed) made
+    bytes sends in
+    let went =
+    outs_sent_on tells clients n now l l' s s1 s2 o o1 host host' store able.ready may flushed stand
+    within made bytes under sends in
+    let came =
+    outs_come clients n now made bytes l l' s s1 s2 o o1 (tells host) (tells host') went flushed
+    keeps.store.answered.ready joined whole works.went works.halted is_open is in
+    subst (λ (x : Result ℕ Fault). LinkWorks (DueWent now) (DueStopped now) clients n l l' s s2 o
+    (tells host') x) (sym answer)
+    (record {
+      went = came.0;
+      stopped = came.1;
+      keeps = keeps_answer clients n made l l' s s2 o (tells host') keeps joined whole is_open;
+    })
 
 -- ---- sending in a turn
 

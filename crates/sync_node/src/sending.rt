@@ -11,7 +11,7 @@ ghost use Rattle.sync_node.specs.Working.{IsAble, MayGather};
 
 use crate::fault::Fault;
 use crate::link::Link;
-use crate::told::{cite_laws, flush, join};
+use crate::told::{cite_laws, cite_store, flush, join};
 use output_spelling::spell_out;
 use outside::Host;
 use std::alloc::Global;
@@ -48,7 +48,7 @@ pub(crate) fn send_all<H: Host, C: Clients>(
         link.new store.old store.new (H.tells host.old) (H.tells host.new) result }
 {
     cite_laws();
-    let _end = store.end();
+    cite_store(store);
     let mut outs = Outs {
         made: 0,
         bytes: Vec::new(alloc),
