@@ -131,12 +131,11 @@ module _ {P Q : Type 0} (facts_of : P → Facts) (other_facts : Q → Facts) (fi
 
   act_maps : (p q : Owing P) (a : Act) → ActStep facts_of first step p a q
       → ActStep other_facts first other (owing_at p) a (owing_at q)
-  act_maps p q (Does e) s =
-      (
-        may_owe_same e p (owing_at p) (λ link. refl) s.0,
-        each p.at q.at e s.1,
-        λ link. s.2 link ∙ ap (λ g. p.owed link ++ adds_to g first e link) (sym (same p.at)),
-      )
+  act_maps p q (Does e) s = (
+    may_owe_same e p (owing_at p) (λ link. refl) s.0,
+    each p.at q.at e s.1,
+    λ link. s.2 link ∙ ap (λ g. p.owed link ++ adds_to g first e link) (sym (same p.at)),
+  )
   act_maps p q (Send n bytes) s =
       elim s [
         | inl all ↦ inl (all.0, each p.at q.at Pass all.1, all.2)

@@ -263,7 +263,7 @@ gathered_then P Q clients s o o1 o2 None then later p = then p
 gathered_then P Q clients s o o1 o2 (Some e) then later p =
     halts_later clients s o o1 o2 e later p
 
-gathering_then : (clients : Meaning) (s s1 s2 : StoreValue) (o1 o2 : Outside)
+pub gathering_then : (clients : Meaning) (s s1 s2 : StoreValue) (o1 o2 : Outside)
     → StaysGathering clients s s1 o1 → StaysGathering clients s1 s2 o2
     → StaysGathering clients s s2 o2
 gathering_then clients s s1 s2 o1 o2 first second = record {

@@ -11,6 +11,7 @@ pub mod CourseLaws
 pub mod DidLaws
 pub mod WentLaws
 pub mod PrimLaws
+mod UnderLaws
 pub mod BatchLaws
 mod LinkActs
 mod GroupLaws

@@ -493,7 +493,7 @@ module _ (first : ℕ) (links : List course_links.Link) where
       → NodeSteps first (paid (resting links f)) (Does (Commit b))
       (paid (resting links (after_all f b)))
   silent_step f b may none =
-      (λ link. refl, inl (may, refl), λ link. sym (ap spelled (none (first + link))))
+      (tt, inl (may, refl), λ link. sym (ap spelled (none (first + link))))
 
   settling_path : (f : Facts) (bs : Journal) → AllSettling bundle_meaning f bs
       → Path (NodeSteps first) (paid (resting links f)) (commit_acts bs)
