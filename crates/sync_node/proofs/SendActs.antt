@@ -368,9 +368,9 @@ module _ (clients : Meaning) (n now : ℕ) (l : Link) (s : StoreValue) (o : Outs
   abbrev outs_from : List ℕ → Bool → Owing Spot
   outs_from heard moved = paid (spot_at (Sends now MAX_OUTPUTS) l heard moved s.state.facts)
 
-  pub outs_begin : ImagesStand → MayGather clients n l.session s o
+  outs_nothing : ImagesStand → MayGather clients n l.session s o
       → OutsUnder now 0 [] clients n l s s o o
-  outs_begin images may = record {
+  outs_nothing images may = record {
     room = MAX_OUTPUTS;
     rest = omega arith;
     none = λ zero. refl;
@@ -389,6 +389,13 @@ module _ (clients : Meaning) (n now : ℕ) (l : Link) (s : StoreValue) (o : Outs
           counts = refl;
         });
   }
+
+  pub outs_begin : ImagesStand → MayGather clients n l.session s o → (made : ℕ) (bytes : List ℕ)
+      → made ≡ 0 → bytes ≡ [] → OutsUnder now made bytes clients n l s s o o
+  outs_begin images may made bytes none no_bytes =
+      subst (λ (k : ℕ). OutsUnder now k bytes clients n l s s o o) (sym none)
+      (subst (λ (bs : List ℕ). OutsUnder now 0 bs clients n l s s o o) (sym no_bytes)
+      (outs_nothing images may))
 
   module _ (made : ℕ) (bytes : List ℕ) (s1 : StoreValue) (o1 : Outside)
       (a : OutsUnder now made bytes clients n l s s1 o o1) where
