@@ -373,7 +373,7 @@ module _ (clients : Meaning) (n now : ℕ) (l : Link) (s : StoreValue) (o : Outs
   outs_nothing images may = record {
     room = MAX_OUTPUTS;
     rest = omega arith;
-    none = λ zero. refl;
+    none = λ is. refl;
     stays = record {
       waits = may.waits;
       settled = may.settled;
@@ -432,9 +432,9 @@ module _ (clients : Meaning) (n now : ℕ) (l : Link) (s : StoreValue) (o : Outs
             let step = LinkActs clients first n in
             let to : Bool → Owing Spot =
             λ b. owing_on n bytes' (spot_at (Puts now left) l heard b s2.state.facts) in
+            let more : made + 1 ≡ suc made = omega arith in
             subst (λ (k : ℕ). MakesUnder clients step (outs_from heard moved)
-            (to (cond (nat_lt 0 (suc made)) true moved)) s s2 o o2 k)
-            (omega arith)
+            (to (cond (nat_lt 0 (suc made)) true moved)) s s2 o o2 k) more
             (subst (λ (b : Bool). MakesUnder clients step (outs_from heard moved) (to b) s s2 o o2
             (made + 1)) (sym (moves made moved))
             (makes_under_then clients step (outs_from heard moved) (outs_at heard moved1) (to true) s
@@ -467,8 +467,9 @@ module _ (clients : Meaning) (n now : ℕ) (l : Link) (s : StoreValue) (o : Outs
           (cond (nat_lt 0 made) true moved) f) in
           let still : MakesUnder clients step (to s1.state.facts) (to s1.state.facts) s1 s2 o1 o2 0 =
           record { goes = record { acts = []; path = refl; under = idle.under }; counts = refl } in
+          let same : made + 0 ≡ made = omega arith in
           subst (λ (k : ℕ). MakesUnder clients step (outs_from heard moved) (to s2.state.facts) s s2
-          o o2 k) (omega arith)
+          o o2 k) same
           (subst (λ (f : Facts). MakesUnder clients step (outs_from heard moved) (to f) s s2 o o2
           (made + 0)) (sym idle.facts)
           (makes_under_then clients step (outs_from heard moved) (to s1.state.facts)
