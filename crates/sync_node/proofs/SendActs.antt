@@ -1,6 +1,6 @@
 -- Outputs that are committed and sent, as steps of a link's turn, and a whole turn.
 use Rattle.std.proofs.Common.{◌≡◌, ℕ, zero, suc, ◌+◌, ◌<◌, ◌≤◌, Bool, true, false, cond, nat_eq, List, [], ◌∷◌, ◌++◌, append-nil, length, length-append, refl, sym, ◌∙◌, ap, subst, inl, inr, arith, Option, None, Some, Result, Ok, Err}
-use Rattle.std.specs.Prelude.{nat_lt, IfErr, IfOk}
+use Rattle.std.specs.Prelude.{nat_lt, IfErr, IfOk, IsErrAnd}
 use Rattle.std.proofs.lemmas.Bool.{cases_eq, false≢true, lt-ltb, ne_eqb}
 use Rattle.entry_codec.specs.Standing.{room_of}
 use Rattle.journal_state.specs.Whole.{StateValue}
@@ -47,7 +47,7 @@ use Rattle.sync_node.specs.Working.{IsAble, MayGather}
 use Rattle.sync_node.specs.OnLinks.{DueStopped, DueWent, LinkActs, LinkMakes, LinkStopped, LinkWent, OutsWent, SendingStopped, SendingWent, HearingStopped, HearingWent, TurnWent}
 use Rattle.sync_node.specs.OnLinks.{MakesUnder, OutHalted, OutJoined, OutsBroke, OutsHalted, OutsJoined, OutsOver, OutsUnder, owing_on, puts_on}
 use Rattle.sync_node.proofs.CauseLaws.{link_kept, link_sent}
-use Rattle.sync_node.proofs.KeepLaws.{able_kept, gather_flushed, gathering_then, gathers_left, join_left, memory_keeps, work_link, work_then}
+use Rattle.sync_node.proofs.KeepLaws.{able_kept, gather_broke, gather_flushed, gathering_then, gathers_left, join_left, memory_keeps, was, work_link, work_then}
 use Rattle.sync_node.proofs.OutLaws.{kept_by, may_end, may_not_end, sent_session, still_so}
 use Rattle.sync_node.proofs.DidLaws.{did_none, did_then}
 use Rattle.sync_node.proofs.LinkActs.{link_does, link_joins, link_no_memory, link_pass, link_stays, link_stops_then}
@@ -896,6 +896,26 @@ pub broken_of : (clients : Meaning) (n now made : ℕ) (bytes : List ℕ) (l : L
 broken_of clients n now made bytes l s s1 o o1 joined broken halted keeps =
     was_broken (OutsHalted now made bytes clients n l l s s1 o o1)
     (λ (stop : Option Fault). LinkGathers clients n l l s s1 o o1 stop) joined broken halted keeps
+
+-- it failed in the flush of them
+pub flush_broke : (clients : Meaning) (n now made : ℕ) (bytes : List ℕ) (l : Link)
+    (s s1 s2 : StoreValue) (o o1 o2 : Outside) (stop : Option Fault) → IsStore s
+    → IsReady clients s o.files → OutsUnder now made bytes clients n l s s1 o o1
+    → LinkGathers clients n l l s s1 o o1 stop → (r : Result ℕ Fault) (e : Fault)
+    → IsErrAnd r (λ x. x ≡ e)
+    → (e ≡ fault.DiskFault) × UnderwayBreaks clients [] s1 s2 o1 o2
+    → LinkWorks (DueWent now) (DueStopped now) clients n l l s s2 o o2 r
+flush_broke clients n now made bytes l s s1 s2 o o1 o2 stop store ready under keeps r e is broke =
+    was r e (LinkWorks (DueWent now) (DueStopped now) clients n l l s s2 o o2) is
+    (subst (λ (x : Fault). LinkWorks (DueWent now) (DueStopped now) clients n l l s s2 o o2 (Err x))
+    (sym broke.0)
+    (record {
+      went = tt;
+      stopped =
+          due_broken clients n now l s s2 o o2 store ready
+          (outs_break clients n now l s o made bytes s1 o1 under s2 o2 broke.1);
+      keeps = gather_broke keeps broke.1;
+    }))
 
 -- what sending them keeps
 outs_keep_sent : {H : Type 0} (tells : H → Outside) (clients : Meaning) (n : ℕ) (l l' : Link)

@@ -52,8 +52,8 @@ returns-in_default g c =
       keeps = c.outs.invariant.keeps;
     }
 
-pub returns-after-outs : goal.returns-after-outs
-returns-after-outs g c = record {
+pub returns : goal.returns
+returns g c = record {
   went = record {
     under = c.outs.invariant.under;
     enough = λ room rest.

@@ -9,12 +9,12 @@ pub returns-in-Ok-clause-went : goal.returns-in-Ok-clause-went
 returns-in-Ok-clause-went g c =
     let clients = g.C.Clients.meaning c.args.clients.now in
     let e = c.in-Ok.ensures in
-    flush_did clients c.args.store.now c.flush.new.store (g.H.Disk.tells c.args.host.now)
-    (g.H.Disk.tells c.flush.new.host) c.requires.waits e.run
-    (flush_behind clients c.args.store.now c.flush.new.store (Ok tt)
-    (g.H.Disk.tells c.args.host.now) (g.H.Disk.tells c.flush.new.host) e.ok tt e.run e.calls
+    flush_did clients c.args.store.now c.flush.new.self (g.H.Disk.tells c.args.host.now)
+    (g.H.Disk.tells c.flush.new.disk) c.requires.waits e.run
+    (flush_behind clients c.args.store.now c.flush.new.self (Ok tt)
+    (g.H.Disk.tells c.args.host.now) (g.H.Disk.tells c.flush.new.disk) e.ok tt e.run e.calls
     e.appends e.adds)
-    (keeps_flushed c.args.store.now c.flush.new.store (Ok tt) e.ok tt)
+    (keeps_flushed c.args.store.now c.flush.new.self (Ok tt) e.ok tt)
     (ap (λ (v : StoreValue). v.closed) e.ok ∙ c.requires.waits.still_open) e.ready
 
 pub returns-in-Err-clause-broke : goal.returns-in-Err-clause-broke
@@ -22,10 +22,10 @@ returns-in-Err-clause-broke g c =
     let clients = g.C.Clients.meaning c.args.clients.now in
     let e = c.in-Err.ensures in (
       refl,
-      adds_broke clients c.args.store.now c.flush.new.store (g.H.Disk.tells c.args.host.now)
-          (g.H.Disk.tells c.flush.new.host) _ c.requires.waits e.run
-          (flush_behind clients c.args.store.now c.flush.new.store (Err c.in-Err.field-0)
-          (g.H.Disk.tells c.args.host.now) (g.H.Disk.tells c.flush.new.host) tt e.err e.run
+      adds_broke clients c.args.store.now c.flush.new.self (g.H.Disk.tells c.args.host.now)
+          (g.H.Disk.tells c.flush.new.disk) _ c.requires.waits e.run
+          (flush_behind clients c.args.store.now c.flush.new.self (Err c.in-Err.field-0)
+          (g.H.Disk.tells c.args.host.now) (g.H.Disk.tells c.flush.new.disk) tt e.err e.run
           e.calls e.appends e.adds)
           (ap (λ (v : StoreValue). v.closed) e.err.1) e.fault.failed,
     )
