@@ -16,23 +16,25 @@ use Rattle.sync_node.proofs.KeepLaws.{gather_broke, gather_failed, gather_flushe
 use Rattle.sync_node.proofs.LinkActs.{items_broken, items_flushed, items_full_broke}
 use Rattle.sync_node.proofs.LinkActs.{items_starved_broke, piece_broke, piece_flushed}
 
+abbrev GroupWorked : Meaning → ℕ → List ℕ → Link → Link → StoreValue → StoreValue → Outside → Outside
+    → Result (Unit {0}) Fault → Type 0
+GroupWorked clients n piece l l' s s' o o' r =
+    LinkWorks (PieceTaken piece) (ItemsStopped piece) clients n l l' s s' o o' r
+
 module _ {clients : Meaning} {n : ℕ} {piece : List ℕ} {l l' : Link} {s s1 s2 : StoreValue}
     {o o1 o2 : Outside} (store : IsStore s) (ready : IsReady clients s o.files) where
-  abbrev Worked : Result (Unit {0}) Fault → Type 0
-  Worked r = LinkWorks (PieceTaken piece) (ItemsStopped piece) clients n l l' s s2 o o2 r
-
   -- by what the flush behind the whole piece answered
   pub group_ends : PieceWent piece clients n l l' s s1 o o1 tt
       → LinkGathers clients n l l' s s1 o o1 None → (r : Result (Unit {0}) Fault)
       → OnOk r (Flushed clients s1 s2 o1 o2)
-      → IfErr r (λ e. (e ≡ fault.DiskFault) × UnderwayBreaks clients [] s1 s2 o1 o2) → Worked r
+      → IfErr r (λ e. (e ≡ fault.DiskFault) × UnderwayBreaks clients [] s1 s2 o1 o2) → GroupWorked clients n piece l l' s s2 o o2 r
   group_ends went keeps (Ok u) flushed broke = record {
     went = piece_flushed store ready went flushed;
     stopped = tt;
     keeps = gather_flushed keeps flushed;
   }
   group_ends went keeps (Err e) flushed broke =
-      subst (λ (x : Fault). Worked (Err x)) (sym broke.0) (record {
+      subst (λ (x : Fault). GroupWorked clients n piece l l' s s2 o o2 (Err x)) (sym broke.0) (record {
         went = tt;
         stopped = piece_broke store ready went broke.1;
         keeps = gather_broke keeps broke.1;
@@ -42,7 +44,7 @@ module _ {clients : Meaning} {n : ℕ} {piece : List ℕ} {l l' : Link} {s s1 s2
   pub group_stops : (e : Fault) → (e ≡ fault.DiskFault → ⊥)
       → ItemsHalted piece clients n l l' s s1 o o1 e
       → LinkGathers clients n l l' s s1 o o1 (Some e) → Flushed clients s1 s2 o1 o2
-      → Worked (Err e)
+      → GroupWorked clients n piece l l' s s2 o o2 (Err e)
   group_stops e other halted keeps flushed = record {
     went = tt;
     stopped = items_flushed store ready e other halted flushed;
@@ -53,9 +55,9 @@ module _ {clients : Meaning} {n : ℕ} {piece : List ℕ} {l l' : Link} {s s1 s2
   pub group_starved_broke : ItemsHalted piece clients n l l' s s1 o o1 fault.Memory
       → LinkGathers clients n l l' s s1 o o1 (Some fault.Memory) → (r : Result (Unit {0}) Fault)
       → (e : Fault) → IsErrAnd r (λ x. x ≡ e)
-      → (e ≡ fault.DiskFault) × UnderwayBreaks clients [] s1 s2 o1 o2 → Worked r
+      → (e ≡ fault.DiskFault) × UnderwayBreaks clients [] s1 s2 o1 o2 → GroupWorked clients n piece l l' s s2 o o2 r
   group_starved_broke halted keeps r e is broke =
-      was r e Worked is (subst (λ (x : Fault). Worked (Err x)) (sym broke.0) (record {
+      was r e (λ (x : Result (Unit {0}) Fault). GroupWorked clients n piece l l' s s2 o o2 x) is (subst (λ (x : Fault). GroupWorked clients n piece l l' s s2 o o2 (Err x)) (sym broke.0) (record {
         went = tt;
         stopped = items_starved_broke store ready halted broke.1;
         keeps = gather_broke keeps broke.1;
@@ -64,9 +66,9 @@ module _ {clients : Meaning} {n : ℕ} {piece : List ℕ} {l l' : Link} {s s1 s2
   pub group_full_broke : ItemsHalted piece clients n l l' s s1 o o1 fault.Full
       → LinkGathers clients n l l' s s1 o o1 (Some fault.Full) → (r : Result (Unit {0}) Fault)
       → (e : Fault) → IsErrAnd r (λ x. x ≡ e)
-      → (e ≡ fault.DiskFault) × UnderwayBreaks clients [] s1 s2 o1 o2 → Worked r
+      → (e ≡ fault.DiskFault) × UnderwayBreaks clients [] s1 s2 o1 o2 → GroupWorked clients n piece l l' s s2 o o2 r
   group_full_broke halted keeps r e is broke =
-      was r e Worked is (subst (λ (x : Fault). Worked (Err x)) (sym broke.0) (record {
+      was r e (λ (x : Result (Unit {0}) Fault). GroupWorked clients n piece l l' s s2 o o2 x) is (subst (λ (x : Fault). GroupWorked clients n piece l l' s s2 o o2 (Err x)) (sym broke.0) (record {
         went = tt;
         stopped = items_full_broke store ready halted broke.1;
         keeps = gather_broke keeps broke.1;

@@ -442,10 +442,11 @@ may_begin {clients = clients} {s = s} {o = o} store able = record {
 
 -- ---- and what a flush leaves of it
 
-module _ {clients : Meaning} {n : ℕ} {l l' : Link} {s s1 s2 : StoreValue} {o o1 o2 : Outside} where
-  flushed_link : LinkGoes n l l' o o1 → LetsNothingFall o1 o2 → LinkGoes n l l' o o2
-  flushed_link first goes = link_then {l1 = l'} first (link_kept goes refl refl)
+flushed_link : {n : ℕ} {l l' : Link} {o o1 o2 : Outside} → LinkGoes n l l' o o1
+    → LetsNothingFall o1 o2 → LinkGoes n l l' o o2
+flushed_link {l' = l'} first goes = link_then {l1 = l'} first (link_kept goes refl refl)
 
+module _ {clients : Meaning} {n : ℕ} {l l' : Link} {s s1 s2 : StoreValue} {o o1 o2 : Outside} where
   -- all of it was done
   pub gather_flushed : LinkGathers clients n l l' s s1 o o1 None → Flushed clients s1 s2 o1 o2
       → LinkKeeps clients n l l' s s2 o o2 None

@@ -631,6 +631,23 @@ items_closed images {clients = clients} {n = n} {left = left} {l = l} {l' = l'} 
 
 -- ---- what waited of a piece was added
 
+-- the disk failed in that
+module _ {clients : Meaning} {n : ℕ} {s s1 s2 : StoreValue} {o o1 o2 : Outside}
+    (store : IsStore s) (ready : IsReady clients s o.files) where
+  broken_behind : (l' : Link) (first : ℕ) (p q : Spot) (heard : List ℕ)
+      → Goes clients (LinkActs clients first n) (paid p) (paid q) s s1 o o1
+      → HasSoon (LinkActs clients first n) (λ (x : Owing Spot). x.at.link ≡ link_at l' heard)
+      (paid q)
+      → UnderwayBreaks clients [] s1 s2 o1 o2
+      → StopsBroken clients (LinkActs clients first n)
+      (λ (x : Owing Spot). x.at.link ≡ link_at l' heard) (paid p) s s2 o o2
+  broken_behind l' first p q heard goes stands breaks =
+      stopped_broken clients (LinkActs clients first n)
+      (λ (x : Owing Spot). x.at.link ≡ link_at l' heard) (paid p) s s2 o o2 store ready
+      (halted_broken clients (LinkActs clients first n)
+      (λ (x : Owing Spot). x.at.link ≡ link_at l' heard) (paid p) (paid q) s s1 s2 o o1 o2 goes
+      stands breaks)
+
 module _ {clients : Meaning} {n : ℕ} {piece : List ℕ} {l l' : Link} {s s1 s2 : StoreValue}
     {o o1 o2 : Outside} (store : IsStore s) (ready : IsReady clients s o.files) where
   pub piece_flushed : PieceWent piece clients n l l' s s1 o o1 tt → Flushed clients s1 s2 o1 o2
@@ -659,21 +676,6 @@ module _ {clients : Meaning} {n : ℕ} {piece : List ℕ} {l l' : Link} {s s1 s2
         other (halted.halts heard its moved reading first is) flushed;
   }
 
-  -- the disk failed in that
-  broken_behind : (first : ℕ) (p q : Spot) (heard : List ℕ)
-      → Goes clients (LinkActs clients first n) (paid p) (paid q) s s1 o o1
-      → HasSoon (LinkActs clients first n) (λ (x : Owing Spot). x.at.link ≡ link_at l' heard)
-      (paid q)
-      → UnderwayBreaks clients [] s1 s2 o1 o2
-      → StopsBroken clients (LinkActs clients first n)
-      (λ (x : Owing Spot). x.at.link ≡ link_at l' heard) (paid p) s s2 o o2
-  broken_behind first p q heard goes stands breaks =
-      stopped_broken clients (LinkActs clients first n)
-      (λ (x : Owing Spot). x.at.link ≡ link_at l' heard) (paid p) s s2 o o2 store ready
-      (halted_broken clients (LinkActs clients first n)
-      (λ (x : Owing Spot). x.at.link ≡ link_at l' heard) (paid p) (paid q) s s1 s2 o o1 o2 goes
-      stands breaks)
-
   pub piece_broke : PieceWent piece clients n l l' s s1 o o1 tt
       → UnderwayBreaks clients [] s1 s2 o1 o2
       → ItemsStopped piece clients n l l' s s2 o o2 fault.DiskFault
@@ -681,7 +683,7 @@ module _ {clients : Meaning} {n : ℕ} {piece : List ℕ} {l l' : Link} {s s1 s2
     stops = λ heard its moved reading first is.
         let p : Spot = spot_at (Takes its) l heard moved s.state.facts in
         let q : Spot = spot_at Waits l' heard moved s1.state.facts in
-        broken_behind first p q heard (went.went heard its moved reading first is)
+        broken_behind store ready l' first p q heard (went.went heard its moved reading first is)
         (has_now (LinkActs clients first n) (λ (x : Owing Spot). x.at.link ≡ link_at l' heard)
         (paid q) refl) breaks;
   }

@@ -33,7 +33,7 @@ use Rattle.sync_course.specs.Owing.{Owing, adds_to, paid}
 use Rattle.sync_course.specs.declared.TheConstants.{MAX_OUTPUTS}
 use Rattle.sync_course.proofs.ActLaws.{batches_in-append}
 use Rattle.sync_course.proofs.CallLaws.{step_at}
-use Rattle.sync_course.proofs.PathLaws.{path_one, path_then}
+use Rattle.sync_course.proofs.PathLaws.{path_one, path_push, path_then}
 use Rattle.sync_course.proofs.ToldLaws.{told_pass, told_read}
 use Rattle.sync_node.specs.declared.fault.Fault.{Fault}
 use Rattle.sync_node.specs.declared.link.Link.{Link}
@@ -52,8 +52,8 @@ use Rattle.sync_node.proofs.OutLaws.{kept_by, may_end, may_not_end, sent_session
 use Rattle.sync_node.proofs.DidLaws.{did_none, did_then}
 use Rattle.sync_node.proofs.LinkActs.{link_does, link_joins, link_no_memory, link_pass, link_stays, link_stops_then}
 use Rattle.sync_node.proofs.PrimLaws.{did_fail, did_pass, did_quiet, did_send, off_link, on_link}
-use Rattle.sync_node.proofs.UnderLaws.{gone_flushed, gone_none, gone_then, halted_broken, over_flushed, stopped_broken, under_none, under_passed}
-use Rattle.sync_node.proofs.WentLaws.{has_now, went_one, went_then}
+use Rattle.sync_node.proofs.UnderLaws.{halted_broken, over_flushed, stopped_broken, under_flushed, under_none, under_passed, under_then}
+use Rattle.sync_node.proofs.WentLaws.{has_now}
 use Rattle.sync_node.proofs.WorkLaws.{goes_read}
 use Rattle.sync_course.specs.Reading.{HasRead}
 use Rattle.sync_course.specs.declared.ends.LinkEnd.TheVariants as link_end
@@ -335,7 +335,11 @@ makes_under_then : {P : Type 0} (clients : Meaning) (step : P → Act → P → 
     → MakesUnder clients step p q s s1 o o1 a → MakesUnder clients step q r s1 s2 o1 o2 b
     → MakesUnder clients step p r s s2 o o2 (a + b)
 makes_under_then clients step p q r s s1 s2 o o1 o2 a b first second = record {
-  goes = gone_then clients step p q r s s1 s2 o o1 o2 first.goes second.goes;
+  goes = record {
+    acts = first.goes.acts ++ second.goes.acts;
+    path = path_then step p q r first.goes.acts second.goes.acts first.goes.path second.goes.path;
+    under = under_then first.goes.under second.goes.under;
+  };
   counts =
       ap (λ (l : Journal). length l) (batches_in-append first.goes.acts second.goes.acts)
       ∙ length-append (batches_in first.goes.acts) (batches_in second.goes.acts)
@@ -368,12 +372,12 @@ module _ (clients : Meaning) (n now : ℕ) (l : Link) (s : StoreValue) (o : Outs
   abbrev outs_from : List ℕ → Bool → Owing Spot
   outs_from heard moved = paid (spot_at (Sends now MAX_OUTPUTS) l heard moved s.state.facts)
 
-  pub outs_begin : ImagesStand → MayGather clients n l.session s o
+  outs_nothing : ImagesStand → MayGather clients n l.session s o
       → OutsUnder now 0 [] clients n l s s o o
-  outs_begin images may = record {
+  outs_nothing images may = record {
     room = MAX_OUTPUTS;
     rest = omega arith;
-    none = λ zero. refl;
+    none = λ is. refl;
     stays = record {
       waits = may.waits;
       settled = may.settled;
@@ -385,10 +389,17 @@ module _ (clients : Meaning) (n now : ℕ) (l : Link) (s : StoreValue) (o : Outs
         (outs_from heard moved) q s s o o 0)
         (sym (nil_owing n (spot_at (Sends now MAX_OUTPUTS) l heard moved s.state.facts)))
         (record {
-          goes = gone_none clients (LinkActs clients first n) images (outs_from heard moved) s o;
+          goes = record { acts = []; path = refl; under = under_none images clients s o };
           counts = refl;
         });
   }
+
+  pub outs_begin : ImagesStand → MayGather clients n l.session s o → (made : ℕ) (bytes : List ℕ)
+      → made ≡ 0 → bytes ≡ [] → OutsUnder now made bytes clients n l s s o o
+  outs_begin images may made bytes none no_bytes =
+      subst (λ (k : ℕ). OutsUnder now k bytes clients n l s s o o) (sym none)
+      (subst (λ (bs : List ℕ). OutsUnder now 0 bs clients n l s s o o) (sym no_bytes)
+      (outs_nothing images may))
 
   module _ (made : ℕ) (bytes : List ℕ) (s1 : StoreValue) (o1 : Outside)
       (a : OutsUnder now made bytes clients n l s s1 o o1) where
@@ -425,9 +436,9 @@ module _ (clients : Meaning) (n now : ℕ) (l : Link) (s : StoreValue) (o : Outs
             let step = LinkActs clients first n in
             let to : Bool → Owing Spot =
             λ b. owing_on n bytes' (spot_at (Puts now left) l heard b s2.state.facts) in
+            let more : made + 1 ≡ suc made = omega arith in
             subst (λ (k : ℕ). MakesUnder clients step (outs_from heard moved)
-            (to (cond (nat_lt 0 (suc made)) true moved)) s s2 o o2 k)
-            (omega arith)
+            (to (cond (nat_lt 0 (suc made)) true moved)) s s2 o o2 k) more
             (subst (λ (b : Bool). MakesUnder clients step (outs_from heard moved) (to b) s s2 o o2
             (made + 1)) (sym (moves made moved))
             (makes_under_then clients step (outs_from heard moved) (outs_at heard moved1) (to true) s
@@ -460,8 +471,9 @@ module _ (clients : Meaning) (n now : ℕ) (l : Link) (s : StoreValue) (o : Outs
           (cond (nat_lt 0 made) true moved) f) in
           let still : MakesUnder clients step (to s1.state.facts) (to s1.state.facts) s1 s2 o1 o2 0 =
           record { goes = record { acts = []; path = refl; under = idle.under }; counts = refl } in
+          let same : made + 0 ≡ made = omega arith in
           subst (λ (k : ℕ). MakesUnder clients step (outs_from heard moved) (to s2.state.facts) s s2
-          o o2 k) (omega arith)
+          o o2 k) same
           (subst (λ (f : Facts). MakesUnder clients step (outs_from heard moved) (to f) s s2 o o2
           (made + 0)) (sym idle.facts)
           (makes_under_then clients step (outs_from heard moved) (to s1.state.facts)
@@ -528,9 +540,11 @@ module _ (clients : Meaning) (n now : ℕ) (l : Link) (s s1 s2 : StoreValue) (o 
       subst (λ (f : Facts). Makes clients step (outs_from clients n now l s o heard moved) (to f) s s2
       o o2 made) (sym (ap (λ (v : StateValue). v.facts) flushed.keeps.state))
       (record {
-        went =
-            gone_flushed clients step (outs_from clients n now l s o heard moved) (to s1.state.facts)
-            s s1 s2 o o1 o2 store ready by.goes flushed;
+        went = record {
+          acts = by.goes.acts;
+          path = by.goes.path;
+          did = under_flushed store ready by.goes.under flushed;
+        };
         counts = by.counts;
       })
 
@@ -585,14 +599,25 @@ module _ (clients : Meaning) (n now : ℕ) (l : Link) (s s1 s2 : StoreValue) (o 
         subst (λ (z : Spot). Makes clients step (outs_from clients n now l s o heard moved) (paid z) s
         s2 o o3 (suc made)) end
         (record {
-          went = went_then clients step (outs_from clients n now l s o heard moved) p q s s2 s2 o o2 o3
-              by.went (went_one clients step p q act s2 s2 o2 o3 (steps heard moved first at) did);
+          went = record {
+            acts = by.went.acts ++ act ∷ [];
+            path =
+                path_push step (outs_from clients n now l s o heard moved) p q by.went.acts act
+                by.went.path (steps heard moved first at);
+            did = did_then by.went.did did;
+          };
           counts =
               ap (λ (l : Journal). length l) (batches_in-append by.went.acts (act ∷ []))
               ∙ ap (λ (l : Journal). length (batches_in by.went.acts ++ l)) none
               ∙ ap (λ (l : Journal). length l) (append-nil (batches_in by.went.acts))
               ∙ by.counts;
         })
+
+    put_sent : (session : ℕ) (heard : List ℕ) (moved : Bool)
+        → LinkStep clients n session (put_at_end heard moved) Pass
+        (spot_at (Sends now a.room) l heard true s2.state.facts)
+    put_sent session heard moved =
+        λ i. spot_at (Sends now a.room) l heard (sym (moves made moved) i) s2.state.facts
 
     by_result : (result : Result (Unit {0}) Failed) → SendsBytes n bytes result o2.links o3.links
         → EndsBy result l l' → (heard : List ℕ) (moved : Bool)
@@ -606,13 +631,8 @@ module _ (clients : Meaning) (n now : ℕ) (l : Link) (s s1 s2 : StoreValue) (o 
         ∙ ap (λ (b : Bool). cond b (Sends now a.room) Done) (may_end l.end may)))
         refl (did_send stand clients n bytes s2 o2 o3 roomy within sends.call u went)
         (λ heard moved first at.
-        inl (sym (on_link n n bytes refl), put_sent heard moved, λ link. owed_out n link bytes))
-      where
-        put_sent : (heard : List ℕ) (moved : Bool)
-            → LinkStep clients n _ (put_at_end heard moved) Pass
-            (spot_at (Sends now a.room) l heard true s2.state.facts)
-        put_sent heard moved =
-            λ i. spot_at (Sends now a.room) l heard (sym (moves made moved) i) s2.state.facts
+        inl (sym (on_link n n bytes refl), put_sent (first + n) heard moved,
+        λ link. owed_out n link bytes))
     by_result (Err why) went ends =
         sent_by (Fail n bytes went.sent.0) Done (record l { end = link_end.Failed })
         (sym ends) (ap (λ (x : Link). sends_on now a.room x) (sym ends)) refl
@@ -752,16 +772,52 @@ outs_full clients n now made l s s1 o o1 a ready open_is less what allowed over 
       };
 }
 
+-- ---- by what stopped it, and by what is answered then
+
+not_broken : (P : Unit {0} → Type 0) (H : Fault → Type 0) (U : Type 0)
+    → ((u : Unit {0}) → P u → U) → (H fault.Memory → U) → (H fault.Full → U)
+    → (joined : Result (Unit {0}) Fault) → has_broken joined ≡ false → IfOk joined P
+    → IfErr joined H → U
+not_broken P H U done starved filled (Ok u) whole ok err = done u ok
+not_broken P H U done starved filled (Err fault.Memory) whole ok err = starved err
+not_broken P H U done starved filled (Err fault.Full) whole ok err = filled err
+not_broken P H U done starved filled (Err fault.DiskFault) whole ok err = cc
+
+was_broken : (H : Fault → Type 0) (K : Option Fault → Type 0) (joined : Result (Unit {0}) Fault)
+    → has_broken joined ≡ true → IfErr joined H → K (stop_of joined)
+    → H fault.DiskFault × K (Some fault.DiskFault)
+was_broken H K (Ok u) broken err keeps = cc
+was_broken H K (Err fault.Memory) broken err keeps = cc
+was_broken H K (Err fault.Full) broken err keeps = cc
+was_broken H K (Err fault.DiskFault) broken err keeps = (err, keeps)
+
+came_so : (P : Unit {0} → Type 0) (H : Fault → Type 0) (made : ℕ) (D : ℕ → Type 0)
+    (S : Fault → Type 0)
+    → ((u : Unit {0}) → P u → D made) → (H fault.Memory → S fault.Memory)
+    → (is_open : Bool) → (is_open ≡ false → D made) → (is_open ≡ true → H fault.Full → S fault.Full)
+    → (joined : Result (Unit {0}) Fault) → has_broken joined ≡ false → IfOk joined P
+    → IfErr joined H
+    → IfOk (outs_answer joined made is_open) D × IfErr (outs_answer joined made is_open) S
+came_so P H made D S done starved is_open closed filled (Ok u) whole ok err = (done u ok, tt)
+came_so P H made D S done starved is_open closed filled (Err fault.Memory) whole ok err =
+    (tt, starved err)
+came_so P H made D S done starved true closed filled (Err fault.Full) whole ok err =
+    (tt, filled refl err)
+came_so P H made D S done starved false closed filled (Err fault.Full) whole ok err =
+    (closed refl, tt)
+came_so P H made D S done starved is_open closed filled (Err fault.DiskFault) whole ok err = cc
+
 -- what is under way, whatever stopped it but the disk
 pub under_of : (clients : Meaning) (n now made : ℕ) (bytes : List ℕ) (l : Link) (s s1 : StoreValue)
     (o o1 : Outside) (joined : Result (Unit {0}) Fault) → has_broken joined ≡ false
     → IfOk joined (OutsJoined now made bytes clients n l l s s1 o o1)
     → IfErr joined (OutsHalted now made bytes clients n l l s s1 o o1)
     → OutsUnder now made bytes clients n l s s1 o o1
-under_of clients n now made bytes l s s1 o o1 (Ok u) whole went halted = went.under
-under_of clients n now made bytes l s s1 o o1 (Err fault.Memory) whole went halted = halted
-under_of clients n now made bytes l s s1 o o1 (Err fault.Full) whole went halted = halted.under
-under_of clients n now made bytes l s s1 o o1 (Err fault.DiskFault) whole went halted = cc
+under_of clients n now made bytes l s s1 o o1 joined whole went halted =
+    not_broken (OutsJoined now made bytes clients n l l s s1 o o1)
+    (OutsHalted now made bytes clients n l l s s1 o o1)
+    (OutsUnder now made bytes clients n l s s1 o o1) (λ u ok. ok.under) (λ under. under)
+    (λ more. more.under) joined whole went halted
 
 -- by what stopped it, what sending came to
 module _ (clients : Meaning) (n now made : ℕ) (bytes : List ℕ) (l l' : Link) (s s1 s2 : StoreValue)
@@ -810,12 +866,14 @@ module _ (clients : Meaning) (n now made : ℕ) (bytes : List ℕ) (l l' : Link)
       → is_sent_to l'.end ≡ is_open
       → IfOk (outs_answer joined made is_open) (DueWent now clients n l l' s s2 o o3)
       × IfErr (outs_answer joined made is_open) (DueStopped now clients n l l' s s2 o o3)
-  outs_come (Ok u) whole ok err is_open is = (outs_done ok.enough, tt)
-  outs_come (Err fault.Memory) whole ok err is_open is =
-      (tt, outs_no_memory clients n now made l l' s s2 o o3 went ready)
-  outs_come (Err fault.Full) whole ok err true is = (tt, outs_filled is err)
-  outs_come (Err fault.Full) whole ok err false is = (outs_closed is, tt)
-  outs_come (Err fault.DiskFault) whole ok err is_open is = cc
+  outs_come joined whole ok err is_open is =
+      came_so (OutsJoined now made bytes clients n l l s s1 o o1)
+      (OutsHalted now made bytes clients n l l s s1 o o1) made
+      (DueWent now clients n l l' s s2 o o3) (DueStopped now clients n l l' s s2 o o3)
+      (λ u done. outs_done done.enough)
+      (λ under. outs_no_memory clients n now made l l' s s2 o o3 went ready) is_open
+      (λ closed. outs_closed (is ∙ closed)) (λ open_is more. outs_filled (is ∙ open_is) more) joined
+      whole ok err
 
 -- a call of the disk failed before anything was sent
 pub due_broken : (clients : Meaning) (n now : ℕ) (l : Link) (s s' : StoreValue) (o o' : Outside)
@@ -835,11 +893,9 @@ pub broken_of : (clients : Meaning) (n now made : ℕ) (bytes : List ℕ) (l : L
     → IfErr joined (OutsHalted now made bytes clients n l l s s1 o o1)
     → LinkGathers clients n l l s s1 o o1 (stop_of joined)
     → OutsBroke now clients n l s s1 o o1 × LinkGathers clients n l l s s1 o o1 (Some fault.DiskFault)
-broken_of clients n now made bytes l s s1 o o1 (Ok u) broken halted keeps = cc
-broken_of clients n now made bytes l s s1 o o1 (Err fault.Memory) broken halted keeps = cc
-broken_of clients n now made bytes l s s1 o o1 (Err fault.Full) broken halted keeps = cc
-broken_of clients n now made bytes l s s1 o o1 (Err fault.DiskFault) broken halted keeps =
-    (halted, keeps)
+broken_of clients n now made bytes l s s1 o o1 joined broken halted keeps =
+    was_broken (OutsHalted now made bytes clients n l l s s1 o o1)
+    (λ (stop : Option Fault). LinkGathers clients n l l s s1 o o1 stop) joined broken halted keeps
 
 -- what sending them keeps
 outs_keep_sent : {H : Type 0} (tells : H → Outside) (clients : Meaning) (n : ℕ) (l l' : Link)

@@ -94,20 +94,22 @@ under_breaks {clients = clients} {acts = acts} {bs = bs} {s = s} {s1 = s1} {s2 =
 
 -- ---- what a flush makes of them, where none waited before
 
+added_runs : (clients : Meaning) (acts : List Act) (s s' : StoreValue) (o o' : Outside)
+    → IsStore s → IsReady clients s o.files → (bs : Journal) → bs ≡ batches_in acts
+    → AddsBehind clients s s' o o' bs → RunsBy clients s s' o o' (batches_in acts)
+added_runs clients acts s s' o o' store ready bs is adds =
+    subst (λ (l : Journal). RunsBy clients s s' o o' l) is
+    (added_all clients s s' o o' bs store ready.still_open ready.none_waits adds).runs
+
 module _ {clients : Meaning} {acts : List Act} {s : StoreValue} {o : Outside} (store : IsStore s)
     (ready : IsReady clients s o.files) where
-  added_runs : {s' : StoreValue} {o' : Outside} (bs : Journal) → bs ≡ batches_in acts
-      → AddsBehind clients s s' o o' bs → RunsBy clients s s' o o' (batches_in acts)
-  added_runs {s' = s'} {o' = o'} bs is adds =
-      subst (λ (l : Journal). RunsBy clients s s' o o' l) is
-      (added_all clients s s' o o' bs store ready.still_open ready.none_waits adds).runs
-
   -- they are done
   pub under_flushed : {s1 s2 : StoreValue} {o1 o2 : Outside} → Underway clients acts s s1 o o1
       → Flushed clients s1 s2 o1 o2 → Did clients acts s s2 o o2
   under_flushed {s1 = s1} {s2 = s2} {o1 = o1} {o2 = o2} under flushed =
       did_quiet_acts clients s s2 o o2 acts under.quiet ready.fits
-      (added_runs (batches_in acts ++ []) (append-nil (batches_in acts))
+      (added_runs clients acts s s2 o o2 store ready (batches_in acts ++ [])
+      (append-nil (batches_in acts))
       (behind_adds clients s s1 s2 o o1 o2 (batches_in acts) [] under.gathers flushed.adds))
       flushed.still_open
 
@@ -116,7 +118,8 @@ module _ {clients : Meaning} {acts : List Act} {s : StoreValue} {o : Outside} (s
       → DidFront clients acts s s' o o'
   under_broke {s' = s'} {o' = o'} breaks =
       did_some_quiet clients s s' o o' acts breaks.quiet ready.fits
-      (added_runs (batches_in acts) refl breaks.adds) ready.still_open breaks.shut
+      (added_runs clients acts s s' o o' store ready (batches_in acts) refl breaks.adds)
+      ready.still_open breaks.shut
 
 -- ---- on a machine
 
