@@ -40,8 +40,9 @@ from_joined (p ∷ ps) (suc bound) fits few =
     let split : flat_map frame_of (p ∷ ps) ++ 0 ∷ [] ≡ frame_of p ++ rest =
     append_assoc (frame_of p) (flat_map frame_of ps) (0 ∷ []) in
     ap (λ (l : List ℕ). frames_from (suc bound) l) split
-    ∙ ap (λ (l : List ℕ). suc (frames_from bound l)) (behind_first p rest (All-head fits))
-    ∙ ap suc (from_joined ps bound (All-tail fits) (omega (arith, few)))
+    ∙ ap (λ (l : List ℕ). suc (frames_from bound l)) (behind_first p rest
+    (All-head IsPayload p ps fits))
+    ∙ ap suc (from_joined ps bound (All-tail IsPayload p ps fits) (omega (arith, few)))
 
 -- there are as many bytes as frames at least
 few_frames : (ps : List (List ℕ)) → length ps ≤ length (flat_map frame_of ps)

@@ -181,7 +181,7 @@ module _ (clients : Meaning) where
         added.counted ∙ ap (groups_for kind 0 0) (sym (append-nil waits)) ∙ g.together []
         ∙ adds_first kind (group_len s.waiting) (frames_in s.waiting) [] some full in
         let empty : groups_for kind (group_len new.waiting) (frames_in new.waiting) more
-            ≡ groups_for kind 0 0 more =
+        ≡ groups_for kind 0 0 more =
         ap (λ w. groups_for kind (group_len w) (frames_in w) more) none
         ∙ ap (λ n. groups_for kind 0 n more) frames_none in
         omega (
@@ -360,4 +360,3 @@ gathering_then clients s new files (Ok u) store still ok ready =
     gathering_none clients new files store
     (ready (ap (λ (v : StoreValue). v.closed) ok ∙ still))
 gathering_then clients s new files (Err e) store still ok ready = tt
-

@@ -1,5 +1,5 @@
 -- Batches whose frames wait, and what adding them makes of files that fit a store.
-use Rattle.std.proofs.Common.{◌≡◌, ℕ, ◌+◌, ◌≤◌, Bool, true, false, cond, List, [], ◌∷◌}
+use Rattle.std.proofs.Common.{◌≡◌, ℕ, ◌+◌, ◌<◌, ◌≤◌, Bool, true, false, cond, List, [], ◌∷◌}
 use Rattle.std.proofs.Common.{◌++◌, length, Option, Some, refl, sym, ap, ◌∙◌, subst, inl, inr, arith}
 use Rattle.std.proofs.Common.{append_assoc, length-append}
 use Rattle.std.specs.List.{AllByRecursion, flat_map}
@@ -107,6 +107,16 @@ place_by : (n : ℕ) (a b : Bool) → a && b ≡ true → b ≡ nat_le (n + (MAX
     → n + (MAX_FRAME + 5) ≤ MAX_GROUP
 place_by n true b both is = grind (arith, nat_tests)
 place_by n false b both is = absurd cc
+
+-- and fewer wait than may
+fewer_by : (n : ℕ) (a b : Bool) → a && b ≡ true → a ≡ nat_lt n MAX_WAITING → n < MAX_WAITING
+fewer_by n true b both is = grind (arith, nat_tests)
+fewer_by n false b both is = absurd cc
+
+pub fewer_wait : (waiting batches : ℕ) → has_place waiting batches ≡ true → batches < MAX_WAITING
+fewer_wait waiting batches place =
+    fewer_by batches (nat_lt batches MAX_WAITING) (nat_le (waiting + (MAX_FRAME + 5)) MAX_GROUP)
+    place refl
 
 pub frame_finds_room : (waiting framed : List ℕ) → IsFramed framed
     → has_place (group_len waiting) (frames_in waiting) ≡ true

@@ -19,6 +19,7 @@ use crate::LoadFault;
 use crate::formats::{HeldNames, format_meant, settling_room};
 use crate::laws::cite_laws;
 use crate::store::Store;
+use crate::waiting::Waiting;
 use entry_codec::read_batch;
 use frame_journal::{Journal, barrier};
 use journal_state::State;
