@@ -27,8 +27,8 @@ use std::time::Clock;
 /// tells its counts alone: of its links, and of the failures of the disk and of each link. After a
 /// sync of a file that failed each call on that file fails, and so does each call on a file once the
 /// locks were let go of. A read on a socket waits for 100 ms and then answers `Idle`, one on the
-/// standard input never does; sends to a peer wait 100 ms each, and half a minute beside that in
-/// all.
+/// standard input never does; sends to a peer wait 100 ms for each 32,768 bytes, and half a minute
+/// beside that in all.
 #[derive(Drop)]
 pub struct FileHost<R: Runtime + Net> {
     rt: R,

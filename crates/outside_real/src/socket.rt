@@ -20,13 +20,17 @@ const WRITE_MILLISECONDS: u64 = 10;
 // How many writes one send makes at most: half a minute of waits, where each is as long as asked.
 const MOST_WRITES: u32 = 3_000;
 
-// How long a peer has for each send, and how far it may fall behind that in all.
+// How long a peer has for each part of a send, of so many bytes or what is left of them, and how far
+// it may fall behind that in all. A part is about as long as the longest note.
 const SEND_MILLISECONDS: u64 = 100;
+
+const PART_BYTES: usize = 32_768;
 
 const MOST_BEHIND_MILLISECONDS: u64 = 30_000;
 
-/// A socket, and what was heard on it while it could not send. Its peer has 100 ms for each send,
-/// and may be half a minute behind that in all; a send that is done sooner makes up for others.
+/// A socket, and what was heard on it while it could not send. Its peer has 100 ms for each 32,768
+/// bytes of a send, and for what is left of them, and may be half a minute behind that in all; a send
+/// that is done sooner makes up for others.
 #[derive(Drop)]
 pub struct Socket<R: Net> {
     stream: Stream<R>,
@@ -68,17 +72,18 @@ impl<R: Net> Socket<R> {
     /// up for any more, and neither is a later send waited for.
     pub fn send(&mut self, clock: &impl Clock, bytes: &[u8]) -> io::Result<()> {
         let start = Instant::now(clock)?;
+        let given = time_for(bytes.len());
         let mut left = bytes;
         let mut waited = 0;
         for _ in 0..MOST_WRITES {
             let n = self.write(left)?;
             left = &left[n..];
             if left.is_empty() {
-                self.behind = self.behind_after(waited);
+                self.behind = self.behind_after(waited, given);
                 return Ok(());
             }
             waited = milliseconds(start.elapsed(clock)?);
-            if self.behind_after(waited) >= MOST_BEHIND_MILLISECONDS {
+            if self.behind_after(waited, given) >= MOST_BEHIND_MILLISECONDS {
                 break;
             }
         }
@@ -86,10 +91,11 @@ impl<R: Net> Socket<R> {
         Err(ErrorKind::TimedOut.into())
     }
 
-    // How far the peer is behind, in milliseconds, once a send has taken so long.
-    fn behind_after(&self, waited: u64) -> u64 {
+    // How far the peer is behind, in milliseconds, once a send has taken so long that was given so
+    // long.
+    fn behind_after(&self, waited: u64, given: u64) -> u64 {
         let spent = self.behind.saturating_add(waited);
-        spent.saturating_sub(SEND_MILLISECONDS)
+        spent.saturating_sub(given)
     }
 
     // Writes a front of the bytes. Where none could be written, what the peer sends is read ahead,
@@ -124,6 +130,12 @@ impl<R: Net> Socket<R> {
 // The wait was over, or a signal came. `TimedOut` is another thing: a connection that was lost.
 fn is_pause(e: &io::Error) -> bool {
     matches!(e.kind(), ErrorKind::WouldBlock | ErrorKind::Interrupted)
+}
+
+// How long a peer has for a send of so many bytes, in milliseconds.
+fn time_for(len: usize) -> u64 {
+    let parts = (len / PART_BYTES) as u64;
+    parts.saturating_add(1).saturating_mul(SEND_MILLISECONDS)
 }
 
 // A time in milliseconds.

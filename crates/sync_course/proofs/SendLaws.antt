@@ -178,8 +178,7 @@ module _ (clients : Meaning) (first : ℕ) where
       → SentSo (is_failure i (event_of a)) (sent_by i a ++ q.owed i)
       (p.owed i ++ adds_to p.at.facts first (event_of a) i)
   act_sends (Does e) p q i s =
-      whole_so (is_failure i e)
-      (s.2 i ∙ ap (λ l. l ++ adds_to p.at.facts first e i) (sym (s.0 i)))
+      whole_so (is_failure i e) (s.2 i)
   act_sends (Send n bytes) p q i s =
       elim s [
         | inl all ↦ left_so [] (all.2 i) (sym all.0 ∙ sym (append-nil bytes))

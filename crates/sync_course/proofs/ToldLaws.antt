@@ -16,7 +16,7 @@ use Rattle.outside.specs.Outside.{Outside}
 use Rattle.outside.proofs.CallSteps.{becomes_map, becomes_none, becomes_then}
 use Rattle.sync_rules.specs.declared.entries.Entry.{Entry}
 use Rattle.sync_course.specs.declared.TheConstants.{PIECE_LEN}
-use Rattle.sync_course.specs.Events.{Event, Commit, Hear, Miss, Read, Break, Pass, asked_event, batches_of, commits, readings_of, heard_by, heard_after, is_failure, has_failure, failures_after, GrowsBy, PlansAfter, ChangesThrough, TellsEvents, UpcomingAfter}
+use Rattle.sync_course.specs.Events.{AreQuietEvents, Event, Commit, Hear, Miss, Read, Break, Pass, asked_event, batches_of, commits, readings_of, heard_by, heard_after, is_failure, has_failure, failures_after, GrowsBy, PlansAfter, ChangesThrough, TellsEvents, UpcomingAfter}
 
 -- ---- lists of events
 
@@ -198,6 +198,21 @@ told_commits (b ∷ bs) o o' same =
     told_then (Commit b ∷ []) (commits bs) o o o'
     (told_same (Commit b) o o tt refl refl refl refl (λ link. refl))
     (told_commits bs o o' same)
+
+-- nothing is told of quiet events while the links stayed as they were
+pub told_quiet : (es : List Event) → AreQuietEvents es → (o o' : Outside) → o'.links ≡ o.links
+    → TellsEvents es o o'
+told_quiet [] quiet o o' same = told_stays o o' same
+told_quiet (Commit b ∷ es) quiet o o' same =
+    told_then (Commit b ∷ []) es o o o'
+    (told_same (Commit b) o o tt refl refl refl refl (λ link. refl))
+    (told_quiet es quiet.1 o o' same)
+told_quiet (Pass ∷ es) quiet o o' same =
+    told_then (Pass ∷ []) es o o o' (told_pass o o refl) (told_quiet es quiet.1 o o' same)
+told_quiet (Hear link reply ∷ es) quiet o o' same = absurd quiet.0
+told_quiet (Miss link ∷ es) quiet o o' same = absurd quiet.0
+told_quiet (Read link now ∷ es) quiet o o' same = absurd quiet.0
+told_quiet (Break link ∷ es) quiet o o' same = absurd quiet.0
 
 -- no count changed, where that of the link that was called stayed
 same_counts : (n link : ℕ) (old new : ℕ → ℕ) → new n ≡ old n

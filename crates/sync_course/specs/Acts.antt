@@ -29,6 +29,16 @@ abbrev pub commit_acts : List (List Entry) → List Act
 commit_acts [] = []
 commit_acts (b ∷ bs) = Does (Commit b) ∷ commit_acts bs
 
+-- a batch that is committed, or what is told of by nothing
+abbrev pub IsQuiet : Act → Type 0
+IsQuiet (Does (Commit batch)) = Unit {0}
+IsQuiet (Does Pass) = Unit {0}
+IsQuiet _ = ⊥
+
+abbrev pub AreQuiet : List Act → Type 0
+AreQuiet [] = Unit {0}
+AreQuiet (a ∷ acts) = IsQuiet a × AreQuiet acts
+
 -- the batches among acts, in order
 abbrev pub batches_in : List Act → List (List Entry)
 batches_in acts = batches_of (events_of acts)

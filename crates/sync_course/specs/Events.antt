@@ -33,6 +33,16 @@ abbrev pub commits : List (List Entry) → List Event
 commits [] = []
 commits (b ∷ bs) = Commit b ∷ commits bs
 
+-- a batch that was committed, or nothing that is told of
+abbrev pub IsQuietEvent : Event → Type 0
+IsQuietEvent (Commit batch) = Unit {0}
+IsQuietEvent Pass = Unit {0}
+IsQuietEvent _ = ⊥
+
+abbrev pub AreQuietEvents : List Event → Type 0
+AreQuietEvents [] = Unit {0}
+AreQuietEvents (e ∷ es) = IsQuietEvent e × AreQuietEvents es
+
 -- ---- what events add
 
 -- the batches that were committed, in order

@@ -2,7 +2,7 @@
 use Rattle.std.specs.Prelude.{◌≡◌, ◌*◌, List, [], ◌∷◌, ◌++◌, length}
 use Rattle.outside.specs.Outside.{Outside, MakesAtMost}
 use Rattle.sync_rules.specs.declared.entries.Entry.{Entry}
-use Rattle.sync_course.specs.Events.{Event, batches_of, commits, TellsEvents}
+use Rattle.sync_course.specs.Events.{AreQuietEvents, Event, batches_of, TellsEvents}
 
 -- from one place by these events to another; so also by acts
 abbrev pub Path : {E P : Type 0} → (P → E → P → Type 0) → P → List E → P → Type 0
@@ -19,11 +19,12 @@ pub record RunsPath {P : Type 0} (step : P → Event → P → Type 0) (Before A
   pub journal : (j : List (List Entry)) → Before j → After (j ++ batches_of events)
   pub calls : MakesAtMost (4 * length (next ++ batches_of events)) old new
 
--- What a call did that was broken off: it led to some place. These batches were to be committed next, and it was broken off in one
--- of them or behind them.
+-- What a call did that was broken off: it led to some place. From there some batches were to be
+-- committed next, and it was broken off in one of them or behind them.
 pub record BreaksPath {P : Type 0} (step : P → Event → P → Type 0) (Before After : List (List Entry) → Type 0) (from : P) (old new : Outside) : Type 0 where
   pub to : P
-  pub next : List (List Entry)
+  pub next : List Event
+  pub quiet : AreQuietEvents next
   pub beyond : P
-  pub goes_on : Path step to (commits next) beyond
-  pub runs : RunsPath step Before After from to old new next
+  pub goes_on : Path step to next beyond
+  pub runs : RunsPath step Before After from to old new (batches_of next)

@@ -14,7 +14,7 @@ ghost use Rattle.sync_rules.specs.declared.entries.Entry.TheVariants as entry;
 ghost use Rattle.sync_rules.specs.declared.entries.Out.{Out};
 ghost use Rattle.sync_rules.specs.declared.entries.Session.{Session};
 ghost use Rattle.outside.specs.Outside.{Moment};
-ghost use Rattle.sync_course.specs.Acts.{Act, AtFront, batches_in, Does};
+ghost use Rattle.sync_course.specs.Acts.{Act, AtFront, batches_in};
 ghost use Rattle.sync_course.specs.Events.{batches_of, Commit, Event, has_failure};
 ghost use Rattle.sync_course.specs.Closing.{closing};
 ghost use Rattle.sync_course.specs.Idle.{idle_end, idle_run};
@@ -29,7 +29,7 @@ ghost use Rattle.sync_course.specs.Suits.{AllSuitCourse, heard_at_place, IsCount
 ghost use Rattle.sync_course.specs.Turns.{Broken, Course, first_place, is_over, Place};
 ghost use Rattle.sync_course.specs.Turns.{RunStep, Terms, with_spot};
 ghost use Rattle.sync_course.specs.Free.{first_free, forget, Free, FreeStep, owing_free};
-ghost use Rattle.sync_course.specs.Owing.{ActStep, Owing};
+ghost use Rattle.sync_course.specs.Owing.{ActStep, Owing, OwesNothing};
 ghost use Rattle.sync_course.specs.Story.{AllIsSent, AllSuitPlanned, begun_by, FreeActs};
 ghost use Rattle.sync_course.specs.Story.{heard_at, LinkFailed, MomentStands};
 
@@ -226,17 +226,12 @@ pub fn moments_stand()
     fronts_have_fronts();
 }
 
-/// Whole: where nothing is owed behind the acts of a node, and where an event is to come next, as
-/// that a batch is committed which finds no room, all output was sent on each link on which no call
-/// failed.
+/// Whole: where nothing is owed behind the acts of a node, all output was sent on each link on which
+/// no call failed.
 pub fn all_is_sent()
-    ensures whole { (clients : Meaning) (j : List (List Entry)) (acts : List Act)
-        (to : Owing Free) → Legal clients j → FreeActs clients j acts to
-        → ((link : ℕ) → to.owed link ≡ []) → AllIsSent j acts }
-    ensures full { (clients : Meaning) (j : List (List Entry)) (acts : List Act)
-        (to next : Owing Free) (e : Event) → Legal clients j → FreeActs clients j acts to
-        → ActStep (λ (x : Free). x.facts) (facts j).begun (FreeStep clients (facts j).begun) to
-        (Does e) next → AllIsSent j acts }
+    ensures { (clients : Meaning) (j : List (List Entry)) (acts : List Act)
+        (to : Owing Free) → Legal clients j → FreeActs clients j acts to → OwesNothing to
+        → AllIsSent j acts }
 {
     streams_go_on();
     records_join();

@@ -13,13 +13,21 @@ use Rattle.sync_store.specs.Fitting.{FitsFiles}
 use Rattle.sync_store.specs.Moments.{IsBetween, WithAtMost, JournalMoment, LeadsTo}
 use Rattle.sync_store.specs.Ready.{IsReady}
 use Rattle.sync_store.specs.Runs.{HasExtended, AddsBatch}
-use Rattle.sync_store.specs.Settling.{HasSettled}
-use Rattle.sync_store.proofs.Runs.{runs_within, settled_within}
-use Rattle.sync_store.specs.Store.{StoreValue}
+use Rattle.entry_codec.specs.Payloads.{payload_len}
+use Rattle.entry_codec.specs.Standing.{room_of}
+use Rattle.sync_store.specs.Gathering.{AddsBehind, GathersBehind, JoinsBehind, KeepsBatches, KeepsJournal, SettlesBehind, StepsOn}
+use Rattle.sync_store.specs.Groups.{IsGathering}
+use Rattle.sync_store.specs.Runs.{RunsBy}
+use Rattle.sync_store.proofs.Behind.{adds_format, adds_limit, behind_format, behind_limit}
+use Rattle.sync_store.proofs.Runs.{runs_within}
+use Rattle.sync_store.specs.Store.{StoreValue, format_meant, written_in}
 use Rattle.sync_store.specs.declared.fault.StoreFault.{StoreFault}
 use Rattle.sync_course.specs.Acts.{commit_acts}
-use Rattle.sync_node.specs.Batches.{Added, AddingBreaks, AddingFull, CommitsAndSettles, Breaks, Committed, Settled, SettlesBy, SettlingBreaks, NodeStaysIdle}
-use Rattle.sync_node.specs.Did.{Did}
+use Rattle.sync_course.proofs.ActLaws.{batches_in_commits, commits_are_quiet}
+use Rattle.sync_node.specs.Batches.{Added, AddingBreaks, AddingFull, CommitsAndSettles, Breaks, Committed, FindsNoRoom, Flushed, Joined, Settled, SettlesBy, SettlingBreaks, NodeStaysIdle, StoreStaysIdle}
+use Rattle.sync_node.specs.Did.{Did, Underway, UnderwayBreaks}
+use Rattle.sync_node.specs.Going.{LetsNothingFall}
+use Rattle.sync_node.proofs.SafeLaws.{goes_led}
 use Rattle.sync_node.proofs.CourseLaws.{at_most_between, told_as}
 use Rattle.sync_node.proofs.PrimLaws.{did_batches, did_breaks, did_unasked}
 use Rattle.outside.specs.Links.{sent_of}
@@ -92,43 +100,172 @@ commit_idle tells clients s s' batch e host host' ready run stays ready' same ad
       ready = ready' still;
     }
 
+-- ---- batches that wait
+
+-- what a store that gathers asks of the disk lets nothing fall
+goes_runs : (clients : Meaning) (s s' mid : StoreValue) (o o' : Outside) (all : Journal)
+    (w : IsGathering clients s o.files) → RunsBy clients w.before mid o o' all → DiskRun o o'
+    → LetsNothingFall o o'
+goes_runs clients s s' mid o o' all w runs run =
+    goes_led clients w.before mid o o' (λ j whole. IsBetween j all whole)
+    (λ j whole. whole ≡ j ++ all) w.fits run runs.leads
+
+pub goes_behind : (clients : Meaning) (s s' : StoreValue) (o o' : Outside) (more : Journal)
+    → IsGathering clients s o.files → GathersBehind clients s s' o o' more → DiskRun o o'
+    → LetsNothingFall o o'
+goes_behind clients s s' o o' more w behind run =
+    let u = behind.on w.before w.kept w.more w.gathered in
+    goes_runs clients s s' u.mid o o' u.done w u.runs run
+
+pub goes_added : (clients : Meaning) (s s' : StoreValue) (o o' : Outside) (more : Journal)
+    → IsGathering clients s o.files → AddsBehind clients s s' o o' more → DiskRun o o'
+    → LetsNothingFall o o'
+goes_added clients s s' o o' more w behind run =
+    let a = behind.on w.before w.kept w.more w.gathered in
+    goes_runs clients s s' s' o o' (w.more ++ more) w a.runs run
+
+-- a call of the disk failed in adding what waited
+pub adds_broke : (clients : Meaning) (s s' : StoreValue) (o o' : Outside) (more : Journal)
+    → IsGathering clients s o.files → DiskRun o o' → AddsBehind clients s s' o o' more
+    → s'.closed ≡ true → CountRose o.disk_faults o'.disk_faults
+    → UnderwayBreaks clients (commit_acts more) s s' o o'
+adds_broke clients s s' o o' more w run adds shut rose = record {
+  quiet = commits_are_quiet more;
+  adds = subst (λ (l : Journal). AddsBehind clients s s' o o' l) (sym (batches_in_commits more)) adds;
+  shut = shut;
+  run = run;
+  goes = goes_added clients s s' o o' more w adds run;
+  limit = adds_limit clients s s' o o' more w adds;
+  format = adds_format clients s s' o o' more w adds;
+  rose = rose;
+}
+
+-- batches wait, or were added
+under_by : (clients : Meaning) (s s' : StoreValue) (o o' : Outside) (more : Journal)
+    → IsGathering clients s o.files → DiskRun o o' → GathersBehind clients s s' o o' more
+    → Underway clients (commit_acts more) s s' o o'
+under_by clients s s' o o' more w run behind = record {
+  quiet = commits_are_quiet more;
+  gathers =
+      subst (λ (l : Journal). GathersBehind clients s s' o o' l) (sym (batches_in_commits more))
+      behind;
+  run = run;
+  goes = goes_behind clients s s' o o' more w behind run;
+  limit = behind_limit clients s s' o o' more w behind;
+  format = behind_format clients s s' o o' more w behind;
+}
+
+pub join_did : (clients : Meaning) (s s' : StoreValue) (batch : List Entry) (u : Unit {0})
+    (o o' : Outside) → IsGathering clients s o.files → DiskRun o o'
+    → JoinsBehind clients s s' batch (Ok u) o o'
+    → (s'.closed ≡ false → IsGathering clients s' o'.files) → Joined clients batch s s' o o'
+join_did clients s s' batch u o o' w run joins waits = record {
+  under = under_by clients s s' o o' (batch ∷ []) w run joins.2;
+  facts = joins.1.facts;
+  waits = waits joins.1.closed;
+}
+
+-- nothing was gathered
+join_idle : (clients : Meaning) (s s' : StoreValue) (o o' : Outside)
+    → IsGathering clients s o.files → DiskRun o o' → KeepsBatches s s' → s'.closed ≡ false
+    → GathersBehind clients s s' o o' [] → (s'.closed ≡ false → IsGathering clients s' o'.files)
+    → StoreStaysIdle clients s s' o o'
+join_idle clients s s' o o' w run keeps still behind waits = record {
+  under = under_by clients s s' o o' [] w run behind;
+  facts = keeps.facts;
+  waits = waits still;
+}
+
+over_still : (s s' : StoreValue) (batch : List Entry) → KeepsBatches s s'
+    → s.limit < needed s batch → s'.limit < needed s' batch
+over_still s s' batch keeps over =
+    omega (
+      arith,
+      over,
+      keeps.limit,
+      keeps.end,
+      ap (λ n. payload_len (format_meant n) batch) keeps.format,
+      ap (λ n. room_of (format_meant n) (after_all s'.state.facts batch)) keeps.format,
+      ap (λ (f : Facts). room_of (written_in s) (after_all f batch)) keeps.facts,
+    )
+
+pub join_starved : (clients : Meaning) (s s' : StoreValue) (batch : List Entry) (o o' : Outside)
+    → IsGathering clients s o.files → DiskRun o o'
+    → JoinsBehind clients s s' batch (Err store_fault.Memory) o o'
+    → (s'.closed ≡ false → IsGathering clients s' o'.files) → StoreStaysIdle clients s s' o o'
+join_starved clients s s' batch o o' w run joins waits =
+    join_idle clients s s' o o' w run joins.1 joins.2 joins.3 waits
+
+pub join_full : (clients : Meaning) (s s' : StoreValue) (batch : List Entry) (o o' : Outside)
+    → IsGathering clients s o.files → DiskRun o o'
+    → JoinsBehind clients s s' batch (Err store_fault.Full) o o'
+    → (s'.closed ≡ false → IsGathering clients s' o'.files)
+    → FindsNoRoom clients batch s s' o o'
+join_full clients s s' batch o o' w run joins waits = record {
+  idle = join_idle clients s s' o o' w run joins.1 joins.2 joins.3 waits;
+  over = over_still s s' batch joins.1 joins.0;
+}
+
+pub join_broke : (clients : Meaning) (s s' : StoreValue) (batch : List Entry) (o o' : Outside)
+    → IsGathering clients s o.files → DiskRun o o'
+    → JoinsBehind clients s s' batch (Err store_fault.DiskFault) o o'
+    → CountRose o.disk_faults o'.disk_faults → UnderwayBreaks clients [] s s' o o'
+join_broke clients s s' batch o o' w run joins rose =
+    adds_broke clients s s' o o' [] w run joins.2 joins.1 rose
+
 -- ---- settling
 
-pub settle_by : (clients : Meaning) (s s' : StoreValue) (result : Result (Unit {0}) StoreFault)
-    (o o' : Outside) → IsReady clients s o.files → DiskRun o o'
-    → HasSettled clients s s' result o o' → s'.closed ≡ false
-    → (s'.closed ≡ false → IsReady clients s' o'.files) → SettlesBy clients s s' o o'
-settle_by clients s s' result o o' ready run has still ready' = record {
-  more = has.more;
-  settling = has.comes.settling;
-  did =
-      did_batches clients s s' has.more o o' (λ j whole. IsBetween j has.more whole)
-      (λ j whole. whole ≡ j ++ has.more) ready.fits run (settled_within clients s s' result o o' has) has.comes.calls.appends
-      has.comes.file has.comes.limit has.comes.format (λ j whole between. between) has.comes.leads still (λ j whole is. is);
-  facts = has.comes.facts;
-  ready = ready' still;
+settle_by : (clients : Meaning) (s s' : StoreValue) (o o' : Outside) (more : Journal)
+    → IsGathering clients s o.files → DiskRun o o' → StepsOn clients s s' more
+    → GathersBehind clients s s' o o' more → IsGathering clients s' o'.files
+    → SettlesBy clients s s' o o'
+settle_by clients s s' o o' more w run steps behind waits = record {
+  more = more;
+  settling = steps.settling;
+  under = under_by clients s s' o o' more w run behind;
+  facts = steps.facts;
+  waits = waits;
 }
 
 pub settle_did : (clients : Meaning) (s s' : StoreValue) (u : Unit {0}) (o o' : Outside)
-    → IsReady clients s o.files → DiskRun o o' → HasSettled clients s s' (Ok u) o o'
-    → (s'.closed ≡ false → IsReady clients s' o'.files) → Settled clients s s' o o'
-settle_did clients s s' u o o' ready run has ready' = record {
-  by = settle_by clients s s' (Ok u) o o' ready run has has.answer.0 ready';
-  settled = has.answer.1;
+    → IsGathering clients s o.files → DiskRun o o' → SettlesBehind clients s s' (Ok u) o o'
+    → (s'.closed ≡ false → IsGathering clients s' o'.files) → Settled clients s s' o o'
+settle_did clients s s' u o o' w run has waits = record {
+  by =
+      settle_by clients s s' o o' has.more w run has.steps has.answer.1 (waits has.answer.0);
+  settled = has.answer.2;
 }
 
-pub settle_breaks : (clients : Meaning) (s s' : StoreValue) (result : Result (Unit {0}) StoreFault)
-    (o o' : Outside) → IsReady clients s o.files → DiskRun o o'
-    → HasSettled clients s s' result o o' → s'.closed ≡ true → CountRose o.disk_faults o'.disk_faults
-    → SettlingBreaks clients s s' o o'
-settle_breaks clients s s' result o o' ready run has shut rose = record {
+pub settle_starved : (clients : Meaning) (s s' : StoreValue) (o o' : Outside)
+    → IsGathering clients s o.files → DiskRun o o'
+    → SettlesBehind clients s s' (Err store_fault.Memory) o o'
+    → (s'.closed ≡ false → IsGathering clients s' o'.files) → SettlesBy clients s s' o o'
+settle_starved clients s s' o o' w run has waits =
+    settle_by clients s s' o o' has.more w run has.steps has.answer.1 (waits has.answer.0)
+
+pub settle_broke : (clients : Meaning) (s s' : StoreValue) (o o' : Outside)
+    → IsGathering clients s o.files → DiskRun o o'
+    → SettlesBehind clients s s' (Err store_fault.DiskFault) o o'
+    → CountRose o.disk_faults o'.disk_faults → SettlingBreaks clients s s' o o'
+settle_broke clients s s' o o' w run has rose = record {
   more = has.more;
-  settling = has.comes.settling;
-  breaks =
-      did_breaks clients s s' has.more o o' (λ j whole. IsBetween j has.more whole)
-      (λ j whole. whole ≡ j ++ has.more) ready.fits run (settled_within clients s s' result o o' has) has.comes.calls.appends
-      has.comes.file has.comes.limit has.comes.format (λ j whole between. between) has.comes.leads
-      ready.still_open shut rose;
+  settling = has.steps.settling;
+  breaks = adds_broke clients s s' o o' has.more w run has.answer.1 has.answer.0 rose;
+}
+
+-- ---- a flush
+
+pub flush_did : (clients : Meaning) (s s' : StoreValue) (o o' : Outside)
+    → IsGathering clients s o.files → DiskRun o o' → AddsBehind clients s s' o o' []
+    → KeepsJournal s s' → s'.closed ≡ false
+    → (s'.closed ≡ false → IsReady clients s' o'.files) → Flushed clients s s' o o'
+flush_did clients s s' o o' w run adds same still ready = record {
+  adds = adds;
+  still_open = still;
+  keeps = same;
+  run = run;
+  goes = goes_added clients s s' o o' [] w adds run;
+  ready = ready still;
 }
 
 -- ---- a batch that is added

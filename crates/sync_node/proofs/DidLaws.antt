@@ -9,7 +9,7 @@ use Rattle.sync_rules.specs.Clients.{Meaning}
 use Rattle.sync_rules.specs.Facts.{Journal}
 use Rattle.entry_codec.specs.Standing.{journal}
 use Rattle.sync_store.specs.Store.{StoreValue}
-use Rattle.sync_course.specs.Acts.{Act, AtFront, batches_in, commit_acts, events_of, sends_on}
+use Rattle.sync_course.specs.Acts.{Act, AtFront, batches_in, events_of, sends_on}
 use Rattle.sync_course.specs.Events.{Event, TellsEvents as Tells}
 use Rattle.sync_course.proofs.ActLaws.{batches_in-append, events_of-append, next_wide, sends_on-append}
 use Rattle.sync_course.proofs.ToldLaws.{told_none, told_then}
@@ -173,7 +173,7 @@ did_then {clients = clients} {acts = acts} {bs = bs} {s = s} {s1 = s1} {s2 = s2}
       moments = fronts_then clients acts bs s s1 s2 o o1 o2 first second.moments;
     }
 
-pub some_then : {clients : Meaning} {acts bs : List Act} {next : Journal} {s s1 s2 : StoreValue}
+pub some_then : {clients : Meaning} {acts bs next : List Act} {s s1 s2 : StoreValue}
     {o o1 o2 : Outside} → Did clients acts s s1 o o1 → DidSome clients bs next s1 s2 o1 o2
     → DidSome clients (acts ++ bs) next s s2 o o2
 some_then {clients = clients} {acts = acts} {bs = bs} {next = next} {s = s} {s1 = s1} {s2 = s2} {o =
@@ -189,14 +189,14 @@ some_then {clients = clients} {acts = acts} {bs = bs} {next = next} {s = s} {s1 
           ∙ ap (λ (l : Journal). j ++ l) (sym (batches_in-append acts bs)))
           (second.reads (j ++ batches_in acts) (first.fits j fit));
       calls =
-          subst (λ (n : ℕ). MakesAtMost n o o2) (calls_add acts bs next)
-          (most_then (4 * length (batches_in acts)) (4 * length (next ++ batches_in bs)) o o1 o2
-          first.calls second.calls);
+          subst (λ (n : ℕ). MakesAtMost n o o2) (calls_add acts bs (batches_in next))
+          (most_then (4 * length (batches_in acts)) (4 * length (batches_in next ++ batches_in bs)) o
+          o1 o2 first.calls second.calls);
       breaks =
           breaks_behind s.file s.end s1.end o o1 o2 first.appends
           (subst (λ (f : ℕ). BreaksAppends f s1.end o1 o2) first.file second.breaks);
       moments =
           subst (λ (acts : List Act). ComesAtFronts clients acts s o o2)
-          (sym (append_assoc acts bs (commit_acts next)))
-          (fronts_then clients acts (bs ++ commit_acts next) s s1 s2 o o1 o2 first second.moments);
+          (sym (append_assoc acts bs next))
+          (fronts_then clients acts (bs ++ next) s s1 s2 o o1 o2 first second.moments);
     }

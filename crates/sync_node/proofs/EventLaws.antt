@@ -8,10 +8,11 @@ use Rattle.outside.specs.Outside.{MakesAtMost, Outside}
 use Rattle.sync_rules.specs.Clients.{Meaning}
 use Rattle.sync_rules.specs.Facts.{Facts, Journal}
 use Rattle.sync_store.specs.Store.{StoreValue}
-use Rattle.sync_course.specs.Acts.{Act, Does, Fail, Send, commit_acts, events_of}
-use Rattle.sync_course.specs.Events.{Break, Event, GrowsBy, Pass, PlansAfter, ChangesThrough, TellsEvents, UpcomingAfter, batches_of, commits, failures_after, has_failure, heard_after, heard_by, is_failure, readings_of}
+use Rattle.sync_course.specs.Acts.{Act, Does, Fail, Send, batches_in, events_of}
+use Rattle.sync_course.specs.Events.{Break, Event, GrowsBy, Pass, PlansAfter, ChangesThrough, TellsEvents, UpcomingAfter, batches_of, failures_after, has_failure, heard_after, heard_by, is_failure, readings_of}
 use Rattle.sync_course.specs.Owing.{ActStep, Owing}
 use Rattle.sync_course.specs.Paths.{BreaksPath, Path, RunsPath}
+use Rattle.sync_course.proofs.ActLaws.{quiet_events, quiet_path}
 use Rattle.sync_course.proofs.ToldLaws.{batches_of-append, readings_of-append}
 use Rattle.sync_node.specs.declared.fault.Fault.{Fault}
 use Rattle.sync_node.specs.declared.fault.Fault.TheVariants as fault
@@ -144,11 +145,6 @@ module _ {P : Type 0} (clients : Meaning) (facts_of : P → Facts) (first : ℕ)
   as_events p q (a ∷ acts) path =
       by_act p path.0 q.at a (events_of acts) path.1 (as_events path.0 q acts path.2)
 
-  commits_path : (p q : Owing P) (bs : Journal)
-      → Path (ActStep facts_of first step) p (commit_acts bs) q → Path step p.at (commits bs) q.at
-  commits_path p q [] path = ap (λ (x : Owing P). x.at) path
-  commits_path p q (b ∷ bs) path = (path.0.at, path.1.1, commits_path path.0 q bs path.2)
-
   -- ---- what calls did
 
   pub runs_of : (p q : Owing P) (s s' : StoreValue) (o o' : Outside)
@@ -180,6 +176,7 @@ module _ {P : Type 0} (clients : Meaning) (facts_of : P → Facts) (first : ℕ)
       record {
         to = q.at;
         next = [];
+        quiet = tt;
         beyond = q.at;
         goes_on = refl;
         runs = record {
@@ -201,9 +198,11 @@ module _ {P : Type 0} (clients : Meaning) (facts_of : P → Facts) (first : ℕ)
       as_events p stops.to stops.acts stops.path in
       record {
         to = stops.to.at;
-        next = stops.next;
+        next = events_of stops.next;
+        quiet = quiet_events stops.next stops.quiet;
         beyond = stops.beyond.at;
-        goes_on = commits_path stops.to stops.beyond stops.next stops.goes_on;
+        goes_on =
+            quiet_path facts_of first step stops.to stops.beyond stops.next stops.quiet stops.goes_on;
         runs = record {
           events = way.events;
           path = way.path;
@@ -212,7 +211,7 @@ module _ {P : Type 0} (clients : Meaning) (facts_of : P → Facts) (first : ℕ)
               subst (λ (bs : Journal). ReadsAs clients o'.files (j ++ bs)) (sym way.thins.batches)
               (stops.did.reads j fit);
           calls =
-              subst (λ (bs : Journal). MakesAtMost (4 * length (stops.next ++ bs)) o o')
+              subst (λ (bs : Journal). MakesAtMost (4 * length (batches_in stops.next ++ bs)) o o')
               (sym way.thins.batches) stops.did.calls;
         };
       }

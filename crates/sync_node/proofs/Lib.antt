@@ -11,8 +11,10 @@ pub mod CourseLaws
 pub mod DidLaws
 pub mod WentLaws
 pub mod PrimLaws
+mod UnderLaws
 pub mod BatchLaws
 mod LinkActs
+mod GroupLaws
 mod SendActs
 mod RunActLaws
 pub mod StartActs

@@ -11,7 +11,10 @@ use Rattle.sync_rules.specs.Facts.{Facts, Journal, after_all, after_batches}
 use Rattle.sync_rules.specs.Legal.{Allowed, AllSettling}
 use Rattle.sync_rules.proofs.OutputLaws.{settling_silent, silent_adds_nothing, take_silent}
 use Rattle.sync_store.specs.Ready.{IsReady}
-use Rattle.sync_store.specs.Store.{StoreValue}
+use Rattle.journal_state.specs.Whole.{StateValue}
+use Rattle.sync_store.specs.Fitting.{ImagesStand}
+use Rattle.sync_store.specs.Groups.{IsGathering}
+use Rattle.sync_store.specs.Store.{IsStore, StoreValue}
 use Rattle.sync_course.specs.Acts.{Does, commit_acts}
 use Rattle.sync_course.specs.Events.{Commit, Event, Pass, asked_event}
 use Rattle.sync_course.specs.Links.{items_after, link_after_take, stands_behind, is_going}
@@ -19,16 +22,19 @@ use Rattle.sync_course.specs.Links.{new_items, stands_ended}
 use Rattle.sync_course.specs.LinkTurns.{LinkStep, Spot, Takes, next_take, taken_spot, PassesItem, Waits, Asks, Done, answered_spot}
 use Rattle.sync_course.specs.Owing.{Owing, adds_to, paid}
 use Rattle.sync_course.specs.Paths.{Path}
+use Rattle.sync_course.proofs.ActLaws.{may_paid}
 use Rattle.sync_course.proofs.CallLaws.{step_at, asked_commits, asked_step}
+use Rattle.sync_course.proofs.PathLaws.{path_one}
 use Rattle.sync_course.proofs.ToldLaws.{told_pass, told_asked}
 use Rattle.sync_node.specs.declared.fault.Fault.{Fault}
-use Rattle.sync_node.specs.Batches.{CommitStops, Committed, Settled, SettleStops, SettlesBy}
-use Rattle.sync_node.specs.Did.{Did}
-use Rattle.sync_node.specs.OnLinks.{LinkActs, LinkStopped, LinkWent, RecordStopped, RecordTaken, ItemsStopped, NextWent, PieceWent, HearingStopped, HearingWent}
-use Rattle.sync_node.proofs.BatchLaws.{settling_front}
+use Rattle.sync_node.specs.Batches.{Flushed, JoinHalts, Joined, SettleHalts, Settled, SettlesBy}
+use Rattle.sync_node.specs.Did.{Did, Underway, UnderwayBreaks}
+use Rattle.sync_node.specs.OnLinks.{LinkActs, LinkHalted, LinkStopped, LinkUnder, LinkWent, RecordHalted, RecordTaken, ItemsHalted, ItemsStopped, NextWent, PieceTaken, PieceWent, HearingStopped, HearingWent}
+use Rattle.sync_node.specs.Went.{Goes, HasSoon, StopsBroken, Went}
 use Rattle.sync_node.proofs.TakeLaws.{IsNextTake, closed_behind, learned, not_taking, to_come}
 use Rattle.sync_node.proofs.PrimLaws.{did_pass, did_quiet}
-use Rattle.sync_node.proofs.WentLaws.{commit_stopped, no_memory, stopped_then, went_none, went_one, went_then}
+use Rattle.sync_node.proofs.UnderLaws.{gone_flushed, gone_none, gone_then, halted_broken, halted_then, stopped_broken, stopped_flushed, under_none}
+use Rattle.sync_node.proofs.WentLaws.{has_now, no_memory, stopped_then, went_none, went_one, went_then}
 use Rattle.record_grammar.specs.Laws.{EndingsAreOfRests, RestsGiveNothing}
 use Rattle.record_grammar.specs.Reading.{found_in}
 use Rattle.record_grammar.specs.Stream.{ending}
@@ -85,7 +91,42 @@ module _ {clients : Meaning} (n : ℕ) {session : ℕ} where
       → LinkStopped clients n session p p.link s s o o fault.Memory
   link_no_memory p s o ready = λ k is.
       no_memory clients (LinkActs clients k n) (λ (x : Owing Spot). x.at.link ≡ p.link) (paid p) s o
-      ready (inl refl)
+      (λ link. refl) ready
+      (has_now (LinkActs clients k n) (λ (x : Owing Spot). x.at.link ≡ p.link) (paid p) refl)
+
+  -- the same of what is under way
+  pub link_waits : ImagesStand → {p : Spot} {s : StoreValue} {o : Outside}
+      → LinkUnder clients n session p p s s o o
+  link_waits images {p = p} {s = s} {o = o} =
+      λ first is. gone_none clients (LinkActs clients first n) images (paid p) s o
+
+  pub link_goes_on : {p q r : Spot} {s s1 s' : StoreValue} {o o1 o' : Outside}
+      → LinkUnder clients n session p q s s1 o o1 → LinkUnder clients n session q r s1 s' o1 o'
+      → LinkUnder clients n session p r s s' o o'
+  link_goes_on {p = p} {q = q} {r = r} {s = s} {s1 = s1} {s' = s'} {o = o} {o1 = o1} {o' =
+      o'} first second = λ k is.
+      gone_then clients (LinkActs clients k n) (paid p) (paid q) (paid r) s s1 s' o o1 o'
+      (first k is) (second k is)
+
+  pub link_halts_then : {p q : Spot} {s s1 : StoreValue} {o o1 : Outside} (link : course_links.Link)
+      (s' : StoreValue) (o' : Outside) (e : Fault) → LinkUnder clients n session p q s s1 o o1
+      → LinkHalted clients n session q link s1 s' o1 o' e
+      → LinkHalted clients n session p link s s' o o' e
+  link_halts_then {p = p} {q = q} {s = s} {s1 = s1} {o = o} {o1 = o1} link s' o' e first second =
+      λ k is.
+      halted_then clients (LinkActs clients k n) (λ (x : Owing Spot). x.at.link ≡ link) (paid p)
+      (paid q) s s1 s' o o1 o' e (first k is) (second k is)
+
+  pub link_starved : ImagesStand → (p : Spot) (s : StoreValue) (o : Outside)
+      → IsGathering clients s o.files → LinkHalted clients n session p p.link s s o o fault.Memory
+  link_starved images p s o waits = λ k is. record {
+    to = paid p;
+    went = gone_none clients (LinkActs clients k n) images (paid p) s o;
+    clear = λ link. refl;
+    stands =
+        has_now (LinkActs clients k n) (λ (x : Owing Spot). x.at.link ≡ p.link) (paid p) refl;
+    waits = waits;
+  }
 
 module _ (clients : Meaning) (n session : ℕ) where
   -- ---- one event
@@ -95,7 +136,7 @@ module _ (clients : Meaning) (n session : ℕ) where
       → LinkStep clients n session p e q → ((link : ℕ) → adds_to p.facts first e link ≡ [])
       → LinkActs clients first n (paid p) (Does e) (paid q)
   step_of first is p q e steps none = (
-    λ link. refl,
+    may_paid e (paid p) (λ link. refl),
     subst (λ (k : ℕ). LinkStep clients n k p e q) is steps,
     λ link. sym (none link),
   )
@@ -114,6 +155,32 @@ module _ (clients : Meaning) (n session : ℕ) where
   link_pass p q s o steps =
       link_does p q Pass s s o o (λ first link. refl) steps
       (did_pass clients (Does Pass) s o refl (λ link. refl) (told_pass o o refl))
+
+  -- the same of what is under way
+  link_gathers : (p q : Spot) (e : Event) (s s' : StoreValue) (o o' : Outside)
+      → ((first link : ℕ) → adds_to p.facts first e link ≡ [])
+      → LinkStep clients n session p e q → Underway clients (Does e ∷ []) s s' o o'
+      → LinkUnder clients n session p q s s' o o'
+  link_gathers p q e s s' o o' none steps under = λ first is. record {
+    acts = Does e ∷ [];
+    path =
+        path_one (LinkActs clients first n) (paid p) (paid q) (Does e)
+        (step_of first is p q e steps (none first));
+    under = under;
+  }
+
+  pub link_passes_on : ImagesStand → (p q : Spot) (s : StoreValue) (o : Outside)
+      → LinkStep clients n session p Pass q → LinkUnder clients n session p q s s o o
+  link_passes_on images p q s o steps =
+      let none = under_none images clients s o in
+      link_gathers p q Pass s s o o (λ first link. refl) steps (record {
+        quiet = (tt, tt);
+        gathers = none.gathers;
+        run = none.run;
+        goes = none.goes;
+        limit = refl;
+        format = refl;
+      })
 
   -- ---- settling
 
@@ -137,22 +204,9 @@ module _ (clients : Meaning) (n session : ℕ) where
         settle_path first is q its bs takes settling.1,
       )
 
-  -- settling batches behind others
-  settle_rest : (first : ℕ) → session ≡ first + n → (p : Spot) (its : List Item)
-      (front others : Journal) → p.doing ≡ Takes its
-      → AllSettling clients p.facts (front ++ others)
-      → Path (LinkActs clients first n) (paid (record p { facts = after_batches p.facts front }))
-      (commit_acts others)
-      (paid (record p { facts = after_batches (after_batches p.facts front) others }))
-  settle_rest first is p its [] others takes settling =
-      settle_path first is p its others takes settling
-  settle_rest first is p its (b ∷ front) others takes settling =
-      settle_rest first is (record p { facts = after_all p.facts b }) its front others takes
-      settling.1
-
   pub link_settles : (p : Spot) (its : List Item) (s s' : StoreValue) (o o' : Outside)
       → p.doing ≡ Takes its → p.facts ≡ s.state.facts → (by : SettlesBy clients s s' o o')
-      → LinkWent clients n session p (record p { facts = s'.state.facts }) s s' o o'
+      → LinkUnder clients n session p (record p { facts = s'.state.facts }) s s' o o'
   link_settles p its s s' o o' takes same by = λ first is.
       let settling : AllSettling clients p.facts by.more =
       subst (λ (f : Facts). AllSettling clients f by.more) (sym same) by.settling in
@@ -163,35 +217,34 @@ module _ (clients : Meaning) (n session : ℕ) where
         path =
             subst (λ (f : Facts). Path (LinkActs clients first n) (paid p) (commit_acts by.more)
             (paid (record p { facts = f }))) end (settle_path first is p its by.more takes settling);
-        did = by.did;
+        under = by.under;
       }
 
-  pub link_settle_stops : (p : Spot) (its : List Item) (s s' : StoreValue) (o o' : Outside)
+  pub link_settle_halts : (p : Spot) (its : List Item) (s s' : StoreValue) (o o' : Outside)
       (e : Fault) → p.doing ≡ Takes its → p.facts ≡ s.state.facts
-      → SettleStops clients s s' o o' e → LinkStopped clients n session p p.link s s' o o' e
-  link_settle_stops p its s s' o o' fault.Memory takes same by = λ first is. record {
-    to = paid (record p { facts = s'.state.facts });
-    went = link_settles p its s s' o o' takes same by first is;
-    stands = inl refl;
-    ready = by.ready;
-  }
-  link_settle_stops p its s s' o o' fault.Full takes same never = absurd never
-  link_settle_stops p its s s' o o' fault.DiskFault takes same stops = λ first is.
-      let front : Journal = stops.breaks.front in
-      let others : Journal = stops.breaks.others in
-      let whole : AllSettling clients p.facts (front ++ others) =
-      subst (λ (bs : Journal). AllSettling clients p.facts bs) stops.breaks.parts
-      (subst (λ (f : Facts). AllSettling clients f stops.more) (sym same) stops.settling) in
+      → SettleHalts clients s s' o o' e → LinkHalted clients n session p p.link s s' o o' e
+  link_settle_halts p its s s' o o' fault.Memory takes same by = λ first is.
+      let to : Owing Spot = paid (record p { facts = s'.state.facts }) in
       record {
-        to = paid (record p { facts = after_batches p.facts front });
-        acts = commit_acts front;
-        path = settle_path first is p its front takes (settling_front clients p.facts front others whole);
-        next = others;
-        beyond = paid (record p { facts = after_batches (after_batches p.facts front) others });
-        goes_on = settle_rest first is p its front others takes whole;
-        did = stops.breaks.did;
-        stands = inl refl;
-        rose = stops.breaks.rose;
+        to = to;
+        went = link_settles p its s s' o o' takes same by first is;
+        clear = λ link. refl;
+        stands =
+            has_now (LinkActs clients first n) (λ (x : Owing Spot). x.at.link ≡ p.link) to refl;
+        waits = by.waits;
+      }
+  link_settle_halts p its s s' o o' fault.Full takes same never = absurd never
+  link_settle_halts p its s s' o o' fault.DiskFault takes same halts = λ first is.
+      let to : Owing Spot = paid (record p { facts = after_batches p.facts halts.more }) in
+      record {
+        to = to;
+        acts = commit_acts halts.more;
+        path =
+            settle_path first is p its halts.more takes
+            (subst (λ (f : Facts). AllSettling clients f halts.more) (sym same) halts.settling);
+        breaks = halts.breaks;
+        stands =
+            has_now (LinkActs clients first n) (λ (x : Owing Spot). x.at.link ≡ p.link) to refl;
       }
 
   -- ---- a record that is taken
@@ -218,34 +271,73 @@ module _ (clients : Meaning) (n session : ℕ) where
         step_at clients n session p take_spot (Commit its_batch)
         (Takes (item.One place r ∷ its)) takes (inr (refl, allowed, refl))
 
+    take_acts : (first : ℕ) → session ≡ first + n
+        → LinkActs clients first n (paid p) (Does (Commit its_batch)) (paid take_spot)
+    take_acts first is = step_of first is p take_spot (Commit its_batch) take_step (take_owes first)
+
+    -- the link stands so once it is committed
+    soon_taken : (first : ℕ) → session ≡ first + n
+        → HasSoon (LinkActs clients first n)
+        (λ (x : Owing Spot). x.at.link ≡ link_after_take place r p.link) (paid p)
+    soon_taken first is = record {
+      acts = Does (Commit its_batch) ∷ [];
+      quiet = (tt, tt);
+      next = paid take_spot;
+      path =
+          path_one (LinkActs clients first n) (paid p) (paid take_spot) (Does (Commit its_batch))
+          (take_acts first is);
+      has = refl;
+    }
+
     pub link_takes : (s s' : StoreValue) (o o' : Outside)
-        → Did clients (commit_acts (its_batch ∷ [])) s s' o o'
-        → LinkWent clients n session p (taken_spot place r its its_batch p) s s' o o'
-    link_takes s s' o o' did =
-        link_does p take_spot (Commit its_batch) s s' o o' take_owes take_step did
+        → Underway clients (commit_acts (its_batch ∷ [])) s s' o o'
+        → LinkUnder clients n session p (taken_spot place r its its_batch p) s s' o o'
+    link_takes s s' o o' under =
+        link_gathers p take_spot (Commit its_batch) s s' o o' take_owes take_step under
 
-    pub link_take_stops : (s s' : StoreValue) (o o' : Outside) (e : Fault)
-        → CommitStops clients its_batch s s' o o' e
-        → LinkStopped clients n session p (link_after_take place r p.link) s s' o o' e
-    link_take_stops s s' o o' e stops = λ first is.
-        commit_stopped clients (LinkActs clients first n)
-        (λ (x : Owing Spot). x.at.link ≡ link_after_take place r p.link) (paid p) (paid take_spot)
-        its_batch
-        (step_of first is p take_spot (Commit its_batch) take_step (take_owes first))
-        refl s s' o o' e stops
+    stays_here : (first : ℕ) (s s' : StoreValue) (o o' : Outside) → Underway clients [] s s' o o'
+        → Goes clients (LinkActs clients first n) (paid p) (paid p) s s' o o'
+    stays_here first s s' o o' under = record { acts = []; path = refl; under = under }
 
-    pub link_take_no_memory : (s : StoreValue) (o : Outside) → IsReady clients s o.files
-        → LinkStopped clients n session p (link_after_take place r p.link) s s o o fault.Memory
-    link_take_no_memory s o ready = λ first is.
-        no_memory clients (LinkActs clients first n)
-        (λ (x : Owing Spot). x.at.link ≡ link_after_take place r p.link) (paid p) s o ready
-        (inr (record {
-          batch = its_batch;
-          next = paid take_spot;
-          steps =
-              step_of first is p take_spot (Commit its_batch) take_step (take_owes first);
-          has = refl;
-        }))
+    pub link_take_halts : (s s' : StoreValue) (o o' : Outside) (e : Fault)
+        → JoinHalts clients its_batch s s' o o' e
+        → LinkHalted clients n session p (link_after_take place r p.link) s s' o o' e
+    link_take_halts s s' o o' fault.Memory halts = λ first is. record {
+      to = paid p;
+      went = stays_here first s s' o o' halts.under;
+      clear = λ link. refl;
+      stands = soon_taken first is;
+      waits = halts.waits;
+    }
+    link_take_halts s s' o o' fault.Full halts = λ first is. record {
+      to = paid p;
+      went = stays_here first s s' o o' halts.idle.under;
+      clear = λ link. refl;
+      stands = soon_taken first is;
+      waits = halts.idle.waits;
+      batch = its_batch;
+      next = paid take_spot;
+      steps = take_acts first is;
+      over = halts.over;
+    }
+    link_take_halts s s' o o' fault.DiskFault halts = λ first is. record {
+      to = paid p;
+      acts = [];
+      path = refl;
+      breaks = halts;
+      stands = soon_taken first is;
+    }
+
+    pub link_take_no_memory : ImagesStand → (s : StoreValue) (o : Outside)
+        → IsGathering clients s o.files
+        → LinkHalted clients n session p (link_after_take place r p.link) s s o o fault.Memory
+    link_take_no_memory images s o waits = λ first is. record {
+      to = paid p;
+      went = gone_none clients (LinkActs clients first n) images (paid p) s o;
+      clear = λ link. refl;
+      stands = soon_taken first is;
+      waits = waits;
+    }
 
 -- ---- a record, with the batch that the code makes of it
 
@@ -269,69 +361,69 @@ module _ {clients : Meaning} {session : ℕ} {r : Record} {s : StoreValue} {batc
   is_take : (p : Spot) → p.facts ≡ s.state.facts → batch ≡ next_take p.facts session r
   is_take p same = take.is ∙ ap (λ (f : Facts). next_take f session r) (sym same)
 
-  -- it was committed
-  committed_take : (mid : StoreValue) (o m : Outside) → Committed clients batch s mid o m
+  -- it was gathered
+  joined_take : (mid : StoreValue) (o m : Outside) → Joined clients batch s mid o m
       → (n place : ℕ) (its : List Item) (p : Spot) → p.doing ≡ Takes (item.One place r ∷ its)
       → p.facts ≡ s.state.facts
-      → LinkWent clients n session p
+      → LinkUnder clients n session p
       (behind_take r place its p mid.state.facts) s mid o m
-  committed_take mid o m commits n place its p takes same =
+  joined_take mid o m joins n place its p takes same =
       let b : List Entry = next_take p.facts session r in
       let q_facts : after_all p.facts b ≡ mid.state.facts =
-      ap (λ (f : Facts). after_all f b) same ∙ ap (after_all s.state.facts) (sym (is_take p same)) ∙ sym commits.facts in
-      subst (λ (f : Facts). LinkWent clients n session p (behind_take r place its p f) s mid o m)
+      ap (λ (f : Facts). after_all f b) same ∙ ap (after_all s.state.facts) (sym (is_take p same)) ∙ sym joins.facts in
+      subst (λ (f : Facts). LinkUnder clients n session p (behind_take r place its p f) s mid o m)
       q_facts
       (link_takes clients n session place r its p takes (may_take p same) s mid o m
-      (subst (λ (x : List Entry). Did clients (commit_acts (x ∷ [])) s mid o m) (is_take p same) commits.did))
+      (subst (λ (x : List Entry). Underway clients (commit_acts (x ∷ [])) s mid o m) (is_take p same) joins.under))
 
-  pub record_taken : {mid s' : StoreValue} {o m o' : Outside} → Committed clients batch s mid o m
+  pub record_taken : {mid s' : StoreValue} {o m o' : Outside} → Joined clients batch s mid o m
       → Settled clients mid s' m o' → RecordTaken clients session r s s' o o'
-  record_taken {mid = mid} {s' = s'} {o = o} {m = m} {o' = o'} commits settles = record {
+  record_taken {mid = mid} {s' = s'} {o = o} {m = m} {o' = o'} joins settles = record {
     settled = settles.settled;
     went = λ n place its p takes same.
         let q : Spot = behind_take r place its p mid.state.facts in
-        link_joins n
-        (committed_take mid o m commits n place its p takes same)
+        link_goes_on n
+        (joined_take mid o m joins n place its p takes same)
         (link_settles clients n session q (items_after r its) mid s' m o' refl refl settles.by);
   }
 
-  pub record_stops_at_commit : {s' : StoreValue} {o o' : Outside} (e : Fault)
-      → CommitStops clients batch s s' o o' e → RecordStopped clients session r s s' o o' e
-  record_stops_at_commit {s' = s'} {o = o} {o' = o'} e stops = record {
-    stops = λ n place its p takes same.
-        link_take_stops clients n session place r its p takes (may_take p same) s s' o o' e
-        (subst (λ (x : List Entry). CommitStops clients x s s' o o' e) (is_take p same) stops);
+  pub record_halts_at_join : {s' : StoreValue} {o o' : Outside} (e : Fault)
+      → JoinHalts clients batch s s' o o' e → RecordHalted clients session r s s' o o' e
+  record_halts_at_join {s' = s'} {o = o} {o' = o'} e halts = record {
+    halts = λ n place its p takes same.
+        link_take_halts clients n session place r its p takes (may_take p same) s s' o o' e
+        (subst (λ (x : List Entry). JoinHalts clients x s s' o o' e) (is_take p same) halts);
   }
 
-  pub record_stops_at_settle : {mid s' : StoreValue} {o m o' : Outside}
-      → Committed clients batch s mid o m → (e : Fault) → SettleStops clients mid s' m o' e
-      → RecordStopped clients session r s s' o o' e
-  record_stops_at_settle {mid = mid} {s' = s'} {o = o} {m = m} {o' = o'} commits e stops = record {
-    stops = λ n place its p takes same.
+  pub record_halts_at_settle : {mid s' : StoreValue} {o m o' : Outside}
+      → Joined clients batch s mid o m → (e : Fault) → SettleHalts clients mid s' m o' e
+      → RecordHalted clients session r s s' o o' e
+  record_halts_at_settle {mid = mid} {s' = s'} {o = o} {m = m} {o' = o'} joins e halts = record {
+    halts = λ n place its p takes same.
         let q : Spot = behind_take r place its p mid.state.facts in
-        link_stops_then n (link_after_take place r p.link) s' o' e
-        (committed_take mid o m commits n place its p takes same)
-        (link_settle_stops clients n session q (items_after r its) mid s' m o' e refl refl stops);
+        link_halts_then n (link_after_take place r p.link) s' o' e
+        (joined_take mid o m joins n place its p takes same)
+        (link_settle_halts clients n session q (items_after r its) mid s' m o' e refl refl halts);
   }
 
-  pub record_no_memory : {o : Outside} → IsReady clients s o.files
-      → RecordStopped clients session r s s o o fault.Memory
-  record_no_memory {o = o} ready = record {
-    stops = λ n place its p takes same.
-        link_take_no_memory clients n session place r its p takes (may_take p same) s o ready;
+  pub record_no_memory : ImagesStand → {o : Outside} → IsGathering clients s o.files
+      → RecordHalted clients session r s s o o fault.Memory
+  record_no_memory images {o = o} waits = record {
+    halts = λ n place its p takes same.
+        link_take_no_memory clients n session place r its p takes (may_take p same) images s o waits;
   }
 
 -- behind a skipped record, or behind the last item; no call is made
-pub link_passes : (clients : Meaning) (n session : ℕ) (its : List Item) (p q : Spot)
+pub link_passes : ImagesStand → (clients : Meaning) (n session : ℕ) (its : List Item) (p q : Spot)
     (s : StoreValue) (o : Outside) → p.doing ≡ Takes its → IsSettled clients p.facts
-    → PassesItem its p q → LinkWent clients n session p q s s o o
-link_passes clients n session its p q s o takes settled passes =
-    link_pass clients n session p q s o
+    → PassesItem its p q → LinkUnder clients n session p q s s o o
+link_passes images clients n session its p q s o takes settled passes =
+    link_passes_on clients n session images p q s o
     (step_at clients n session p q Pass (Takes its) takes (settled, passes))
 
 -- ---- the next item
 
-module _ (follow : ReadingsFollow) {piece left : List ℕ} {l : Link} where
+module _ (images : ImagesStand) (follow : ReadingsFollow) {piece left : List ℕ} {l : Link} where
   module _ (place : ℕ) (r : Record) (reader : ReaderState) {l' : Link}
       (reads : ReadsOn piece l.reader (item.One place r ∷ []) left reader)
       (learns : LearnsNonce place r (record l { reader = reader }) l') where
@@ -366,24 +458,24 @@ module _ (follow : ReadingsFollow) {piece left : List ℕ} {l : Link} where
             to_come place r come.0 heard left (record l { reader = reader }) l' going learns.end
                 (subst (λ (x : ReaderState). IsReading heard left x come.0)
                 (sym learns.same_reader) come.2),
-            subst (λ (k : ℕ). LinkWent clients n k p (q (link_at l' heard)) s s' o o') same_number
+            subst (λ (k : ℕ). LinkUnder clients n k p (q (link_at l' heard)) s s' o o') same_number
                 (subst (λ (x : course_links.Link).
-                LinkWent clients n l'.session.number p (q x) s s' o o') (stands_so heard)
+                LinkUnder clients n l'.session.number p (q x) s s' o o') (stands_so heard)
                 (takes.went n place come.0 p (ap (λ (x : List Item). Takes x) come.1) refl)),
           );
     }
 
-    pub item_stops : {clients : Meaning} {n : ℕ} {s s' : StoreValue} {o o' : Outside} {e : Fault}
-        → RecordStopped clients l'.session.number r s s' o o' e
-        → ItemsStopped piece clients n l l' s s' o o' e
-    item_stops {clients = clients} {n = n} {s = s} {s' = s'} {o = o} {o' = o'} {e = e} stopped = record {
-      stops = λ heard its moved reading.
+    pub item_halts : {clients : Meaning} {n : ℕ} {s s' : StoreValue} {o o' : Outside} {e : Fault}
+        → RecordHalted clients l'.session.number r s s' o o' e
+        → ItemsHalted piece clients n l l' s s' o o' e
+    item_halts {clients = clients} {n = n} {s = s} {s' = s'} {o = o} {o' = o'} {e = e} halted = record {
+      halts = λ heard its moved reading.
           let come = one_comes heard its reading in
           let p : Spot = spot_at (Takes its) l heard moved s.state.facts in
-          subst (λ (k : ℕ). LinkStopped clients n k p (link_at l' heard) s s' o o' e) same_number
+          subst (λ (k : ℕ). LinkHalted clients n k p (link_at l' heard) s s' o o' e) same_number
           (subst (λ (x : course_links.Link).
-          LinkStopped clients n l'.session.number p x s s' o o' e) (stands_so heard)
-          (stopped.stops n place come.0 p (ap (λ (x : List Item). Takes x) come.1) refl));
+          LinkHalted clients n l'.session.number p x s s' o o' e) (stands_so heard)
+          (halted.halts n place come.0 p (ap (λ (x : List Item). Takes x) come.1) refl));
     }
 
   pub item_skipped : {clients : Meaning} {n : ℕ} {s : StoreValue} {o : Outside}
@@ -399,7 +491,7 @@ module _ (follow : ReadingsFollow) {piece left : List ℕ} {l : Link} where
         let p : Spot = spot_at (Takes its) l heard moved s.state.facts in (
           come.0,
           subst (IsTaking heard left (record l { reader = reader }) come.0) (sym going) come.2,
-          link_passes clients n l.session.number (item.Skipped place type_byte len ∷ come.0) p
+          link_passes images clients n l.session.number (item.Skipped place type_byte len ∷ come.0) p
               (record p { doing = Takes come.0 }) s o (ap (λ (x : List Item). Takes x) come.1)
               settled refl,
         );
@@ -423,7 +515,7 @@ module _ (follow : ReadingsFollow) {piece left : List ℕ} {l : Link} where
           sym (ends heard over.1)
           ∙ ap (λ (x : LinkEnd). stands_behind x (ending 0 heard)) (sym going) in (
             over.1,
-            link_passes clients n l.session.number [] p
+            link_passes images clients n l.session.number [] p
                 (record p { doing = Waits; link = record (link_at l heard) { stands = end } }) s o
                 (ap (λ (x : List Item). Takes x) (come.1 ∙ over.0)) settled
                 (ap (λ (x : LinkEnd).
@@ -444,23 +536,23 @@ module _ (follow : ReadingsFollow) {piece left : List ℕ} {l : Link} where
     item_bad place why is bad =
         item_none (λ heard has. closes_behind_bad heard reader place why has bad ∙ sym is)
 
-pub item_no_memory : {clients : Meaning} {n : ℕ} {piece : List ℕ} {l : Link} {s : StoreValue}
-    {o : Outside} (reader : ReaderState) → IsReady clients s o.files
-    → ItemsStopped piece clients n l (record l { reader = reader }) s s o o fault.Memory
-item_no_memory {n = n} {l = l} {s = s} {o = o} reader ready = record {
-  stops = λ heard its moved reading.
-      link_no_memory n (spot_at (Takes its) l heard moved s.state.facts) s o ready;
+pub item_no_memory : ImagesStand → {clients : Meaning} {n : ℕ} {piece : List ℕ} {l : Link}
+    {s : StoreValue} {o : Outside} (reader : ReaderState) → IsGathering clients s o.files
+    → ItemsHalted piece clients n l (record l { reader = reader }) s s o o fault.Memory
+item_no_memory images {n = n} {l = l} {s = s} {o = o} reader waits = record {
+  halts = λ heard its moved reading.
+      link_starved n images (spot_at (Takes its) l heard moved s.state.facts) s o waits;
 }
 
 -- ---- a piece
 
-pub items_none : {clients : Meaning} {n : ℕ} {piece : List ℕ} {l : Link} {s : StoreValue}
+pub items_none : ImagesStand → {clients : Meaning} {n : ℕ} {piece : List ℕ} {l : Link} {s : StoreValue}
     {o : Outside} → l.end ≡ link_end.Going → NextWent piece piece clients n l l s s o o true
-items_none {n = n} {piece = piece} {l = l} going = record {
+items_none images {n = n} {piece = piece} {l = l} going = record {
   leads = λ heard its moved reading. (
     its,
     subst (IsTaking heard piece l its) (sym going) reading,
-    link_stays n,
+    link_waits n images,
   );
 }
 
@@ -469,18 +561,18 @@ module _ {clients : Meaning} {n : ℕ} {piece mid : List ℕ} {l m : Link} {s s1
     (a : NextWent piece mid clients n l m s s1 o o1 true) where
   came_to : (heard : List ℕ) (its : List Item) (moved : Bool) → IsReading heard piece l.reader its
       → (others : List Item) × IsReading heard mid m.reader others
-      × LinkWent clients n l.session.number (spot_at (Takes its) l heard moved s.state.facts) (spot_at (Takes others) m heard moved s1.state.facts) s s1 o o1
+      × LinkUnder clients n l.session.number (spot_at (Takes its) l heard moved s.state.facts) (spot_at (Takes others) m heard moved s1.state.facts) s s1 o o1
   came_to heard its moved reading =
       let first = a.leads heard its moved reading in
       (first.0, subst (IsTaking heard mid m first.0) going first.1, first.2)
 
   item_joins : {s' : StoreValue} {o' : Outside} {p q r : Spot}
-      → LinkWent clients n l.session.number p q s s1 o o1
-      → LinkWent clients n m.session.number q r s1 s' o1 o'
-      → LinkWent clients n l.session.number p r s s' o o'
+      → LinkUnder clients n l.session.number p q s s1 o o1
+      → LinkUnder clients n m.session.number q r s1 s' o1 o'
+      → LinkUnder clients n l.session.number p r s s' o o'
   item_joins {s' = s'} {o' = o'} {q = q} {r = r} first second =
-      link_joins n first
-      (subst (λ (x : Session). LinkWent clients n x.number q r s1 s' o1 o') same_session second)
+      link_goes_on n first
+      (subst (λ (x : Session). LinkUnder clients n x.number q r s1 s' o1 o') same_session second)
 
   pub items_then : {left : List ℕ} {l' : Link} {s' : StoreValue} {o' : Outside}
       → NextWent mid left clients n m l' s1 s' o1 o' true
@@ -504,24 +596,24 @@ module _ {clients : Meaning} {n : ℕ} {piece mid : List ℕ} {l m : Link} {s s1
         item_joins first.2 (b.leads heard first.0 moved first.1).1;
   }
 
-  pub items_stop : {l' : Link} {s' : StoreValue} {o' : Outside} {e : Fault}
-      → ItemsStopped mid clients n m l' s1 s' o1 o' e
-      → ItemsStopped piece clients n l l' s s' o o' e
-  items_stop {l' = l'} {s' = s'} {o' = o'} {e = e} b = record {
-    stops = λ heard its moved reading.
+  pub items_halt : {l' : Link} {s' : StoreValue} {o' : Outside} {e : Fault}
+      → ItemsHalted mid clients n m l' s1 s' o1 o' e
+      → ItemsHalted piece clients n l l' s s' o o' e
+  items_halt {l' = l'} {s' = s'} {o' = o'} {e = e} b = record {
+    halts = λ heard its moved reading.
         let first = came_to heard its moved reading in
         let q : Spot = spot_at (Takes first.0) m heard moved s1.state.facts in
-        link_stops_then n (link_at l' heard) s' o' e first.2
-        (subst (λ (x : Session). LinkStopped clients n x.number q (link_at l' heard) s1 s' o1 o' e)
-        same_session (b.stops heard first.0 moved first.1));
+        link_halts_then n (link_at l' heard) s' o' e first.2
+        (subst (λ (x : Session). LinkHalted clients n x.number q (link_at l' heard) s1 s' o1 o' e)
+        same_session (b.halts heard first.0 moved first.1));
   }
 
 -- a record closed the link
-pub items_closed : {clients : Meaning} {n : ℕ} {piece left : List ℕ} {l l' : Link}
+pub items_closed : ImagesStand → {clients : Meaning} {n : ℕ} {piece left : List ℕ} {l l' : Link}
     {s s' : StoreValue} {o o' : Outside} → (l'.end ≡ link_end.Going → ⊥)
     → IsSettled clients s'.state.facts → NextWent piece left clients n l l' s s' o o' true
     → PieceWent piece clients n l l' s s' o o' tt
-items_closed {clients = clients} {n = n} {left = left} {l = l} {l' = l'} {s' = s'} {o' =
+items_closed images {clients = clients} {n = n} {left = left} {l = l} {l' = l'} {s' = s'} {o' =
     o'} closed settled a = record {
       has_read = λ heard its reading going. absurd (closed going);
       went = λ heard its moved reading.
@@ -530,11 +622,112 @@ items_closed {clients = clients} {n = n} {left = left} {l = l} {l' = l'} {s' = s
           not_taking heard left l' first.0 l'.end closed first.1 in
           let p : Spot = spot_at (Takes first.0) l' heard moved s'.state.facts in
           let q : Spot = spot_at Waits l' heard moved s'.state.facts in
-          link_joins n first.2
-          (link_passes clients n l.session.number [] p q s' o'
+          link_goes_on n first.2
+          (link_passes images clients n l.session.number [] p q s' o'
           (ap (λ (x : List Item). Takes x) none) settled
           (ap (λ (x : LinkEnd). record q { link = record (link_at l' heard) { stands = x } })
           (sym (closed_behind l'.end (ending 0 heard) closed))));
+    }
+
+-- ---- what waited of a piece was added
+
+-- the disk failed in that
+module _ {clients : Meaning} {n : ℕ} {s s1 s2 : StoreValue} {o o1 o2 : Outside}
+    (store : IsStore s) (ready : IsReady clients s o.files) where
+  broken_behind : (l' : Link) (first : ℕ) (p q : Spot) (heard : List ℕ)
+      → Goes clients (LinkActs clients first n) (paid p) (paid q) s s1 o o1
+      → HasSoon (LinkActs clients first n) (λ (x : Owing Spot). x.at.link ≡ link_at l' heard)
+      (paid q)
+      → UnderwayBreaks clients [] s1 s2 o1 o2
+      → StopsBroken clients (LinkActs clients first n)
+      (λ (x : Owing Spot). x.at.link ≡ link_at l' heard) (paid p) s s2 o o2
+  broken_behind l' first p q heard goes stands breaks =
+      stopped_broken clients (LinkActs clients first n)
+      (λ (x : Owing Spot). x.at.link ≡ link_at l' heard) (paid p) s s2 o o2 store ready
+      (halted_broken clients (LinkActs clients first n)
+      (λ (x : Owing Spot). x.at.link ≡ link_at l' heard) (paid p) (paid q) s s1 s2 o o1 o2 goes
+      stands breaks)
+
+module _ {clients : Meaning} {n : ℕ} {piece : List ℕ} {l l' : Link} {s s1 s2 : StoreValue}
+    {o o1 o2 : Outside} (store : IsStore s) (ready : IsReady clients s o.files) where
+  pub piece_flushed : PieceWent piece clients n l l' s s1 o o1 tt → Flushed clients s1 s2 o1 o2
+      → PieceTaken piece clients n l l' s s2 o o2 tt
+  piece_flushed went flushed = record {
+    has_read = went.has_read;
+    went = λ heard its moved reading first is.
+        let p : Spot = spot_at (Takes its) l heard moved s.state.facts in
+        let q : Facts → Spot = λ f. spot_at Waits l' heard moved f in
+        subst (λ (v : StateValue).
+        Went clients (LinkActs clients first n) (paid p) (paid (q v.facts)) s s2 o o2)
+        (sym flushed.keeps.state)
+        (gone_flushed clients (LinkActs clients first n) (paid p) (paid (q s1.state.facts)) s s1 s2 o
+        o1 o2
+        store ready (went.went heard its moved reading first is) flushed);
+  }
+
+  pub items_flushed : (e : Fault) → (e ≡ fault.DiskFault → ⊥)
+      → ItemsHalted piece clients n l l' s s1 o o1 e → Flushed clients s1 s2 o1 o2
+      → ItemsStopped piece clients n l l' s s2 o o2 e
+  items_flushed e other halted flushed = record {
+    stops = λ heard its moved reading first is.
+        let p : Spot = spot_at (Takes its) l heard moved s.state.facts in
+        stopped_flushed clients (LinkActs clients first n)
+        (λ (x : Owing Spot). x.at.link ≡ link_at l' heard) (paid p) s s1 s2 o o1 o2 store ready e
+        other (halted.halts heard its moved reading first is) flushed;
+  }
+
+  pub piece_broke : PieceWent piece clients n l l' s s1 o o1 tt
+      → UnderwayBreaks clients [] s1 s2 o1 o2
+      → ItemsStopped piece clients n l l' s s2 o o2 fault.DiskFault
+  piece_broke went breaks = record {
+    stops = λ heard its moved reading first is.
+        let p : Spot = spot_at (Takes its) l heard moved s.state.facts in
+        let q : Spot = spot_at Waits l' heard moved s1.state.facts in
+        broken_behind store ready l' first p q heard (went.went heard its moved reading first is)
+        (has_now (LinkActs clients first n) (λ (x : Owing Spot). x.at.link ≡ link_at l' heard)
+        (paid q) refl) breaks;
+  }
+
+  pub items_starved_broke : ItemsHalted piece clients n l l' s s1 o o1 fault.Memory
+      → UnderwayBreaks clients [] s1 s2 o1 o2
+      → ItemsStopped piece clients n l l' s s2 o o2 fault.DiskFault
+  items_starved_broke halted breaks = record {
+    stops = λ heard its moved reading first is.
+        let p : Spot = spot_at (Takes its) l heard moved s.state.facts in
+        let halts = halted.halts heard its moved reading first is in
+        stopped_broken clients (LinkActs clients first n)
+        (λ (x : Owing Spot). x.at.link ≡ link_at l' heard) (paid p) s s2 o o2 store ready
+        (halted_broken clients (LinkActs clients first n)
+        (λ (x : Owing Spot). x.at.link ≡ link_at l' heard) (paid p) halts.to s s1 s2 o o1 o2
+        halts.went halts.stands breaks);
+  }
+
+  pub items_full_broke : ItemsHalted piece clients n l l' s s1 o o1 fault.Full
+      → UnderwayBreaks clients [] s1 s2 o1 o2
+      → ItemsStopped piece clients n l l' s s2 o o2 fault.DiskFault
+  items_full_broke halted breaks = record {
+    stops = λ heard its moved reading first is.
+        let p : Spot = spot_at (Takes its) l heard moved s.state.facts in
+        let halts = halted.halts heard its moved reading first is in
+        stopped_broken clients (LinkActs clients first n)
+        (λ (x : Owing Spot). x.at.link ≡ link_at l' heard) (paid p) s s2 o o2 store ready
+        (halted_broken clients (LinkActs clients first n)
+        (λ (x : Owing Spot). x.at.link ≡ link_at l' heard) (paid p) halts.to s s1 s2 o o1 o2
+        halts.went halts.stands breaks);
+  }
+
+-- it had failed before
+pub items_broken : {clients : Meaning} {n : ℕ} {piece : List ℕ} {l l' : Link} {s s' : StoreValue}
+    {o o' : Outside} → IsStore s → IsReady clients s o.files
+    → ItemsHalted piece clients n l l' s s' o o' fault.DiskFault
+    → ItemsStopped piece clients n l l' s s' o o' fault.DiskFault
+items_broken {clients = clients} {n = n} {l = l} {l' = l'} {s = s} {s' = s'} {o = o} {o' =
+    o'} store ready halted = record {
+      stops = λ heard its moved reading first is.
+          let p : Spot = spot_at (Takes its) l heard moved s.state.facts in
+          stopped_broken clients (LinkActs clients first n)
+          (λ (x : Owing Spot). x.at.link ≡ link_at l' heard) (paid p) s s' o o' store ready
+          (halted.halts heard its moved reading first is);
     }
 
 module _ (clients : Meaning) (n session : ℕ) where
@@ -636,7 +829,7 @@ module _ (clients : Meaning) (n : ℕ) (l : Link) (s : StoreValue) (o o1 : Outsi
   pub hear_piece : ReadingsWiden → (count : ℕ) {l' : Link} {s' : StoreValue} {o' : Outside}
       → HearsAnswer n (heard_kind.Got count) buf o.links o1.links
       → IsAnswerCaused (heard_kind.Got count) (length buf) (o.links.faults n) (o1.links.faults n)
-      → PieceWent (take count buf) clients n l l' s s' o1 o' tt
+      → PieceTaken (take count buf) clients n l l' s s' o1 o' tt
       → HearingWent clients n l l' s s' o o' false
   hear_piece widen count hears caused taken = record {
     leads = λ heard moved read.

@@ -31,7 +31,8 @@ module _ (clients : Meaning) (terms : Terms) where
       (λ (q : Owing Place). q.at.links ≡ links) (paid p) s s' o o' e stops
 
 -- the calls of the disk, where a run was broken off
-cut_of : {P : Type 0} (clients : Meaning) (step : P → Act → P → Type 0) (Has : P → Type 0) (p : P)
+cut_of : {P : Type 0} (clients : Meaning) (step : Owing P → Act → Owing P → Type 0)
+    (Has : Owing P → Type 0) (p : Owing P)
     (s s' : StoreValue) (o o' : Outside) (e : Fault) → Stopped clients step Has p s s' o o' e
     → CutBy (is_of_disk e) s o o'
 cut_of clients step Has p s s' o o' fault.Memory stops = (s'.end, stops.went.did.appends)

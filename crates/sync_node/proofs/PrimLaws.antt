@@ -1,5 +1,5 @@
 -- What each call of a store or of a host did, as acts.
-use Rattle.std.proofs.Common.{ℕ, List, ◌++◌, take, drop, sym, ap, ◌∙◌, append_assoc, ◌≡◌, ◌≢◌, ◌+◌, ◌*◌, ◌<◌, ◌≤◌, false, true, Bool, cond, nat_eq, eq-eqb, arith, [], ◌∷◌, append-nil, length, refl, subst, inl, inr, Some, Ok, Err, slice_index_or}
+use Rattle.std.proofs.Common.{ℕ, List, ◌++◌, take, drop, sym, ap, ◌∙◌, append_assoc, ◌≡◌, ◌≢◌, ◌+◌, ◌*◌, ◌<◌, ◌≤◌, false, true, Bool, cond, nat_eq, eq-eqb, arith, [], ◌∷◌, append-nil, length, length-append, refl, subst, inl, inr, Some, Ok, Err, slice_index_or}
 use Rattle.std.proofs.lemmas.List.{take-append-drop}
 use Rattle.outside.specs.Runs.{IsFront, TellsAll, sent_at}
 use Rattle.std.specs.Option.{option_map}
@@ -10,22 +10,24 @@ use Rattle.outside.specs.Faults.{CountRose}
 use Rattle.outside.specs.Files.{Two, File}
 use Rattle.outside.specs.Host.{SendsOnLink, SendsPart}
 use Rattle.outside.specs.Links.{Links, sent_of, with_sent}
+use Rattle.outside.proofs.CallCounts.{most_more}
 use Rattle.outside.proofs.MadeSteps.{does_link}
 use Rattle.frame_journal.specs.Appends.{Appends}
 use Rattle.sync_store.specs.Appending.{AppendsFor}
 use Rattle.outside.specs.Outside.{DiskRun, LinkCall, MakesAtMost, Moment, Outside, QuietCall}
 use Rattle.outside.proofs.RunLaws.{quiet_moments, send_moments, sent_at-other, sent_at-with_sent}
 use Rattle.sync_rules.specs.Clients.{Meaning}
+use Rattle.sync_rules.specs.declared.entries.Entry.{Entry}
 use Rattle.sync_rules.specs.Facts.{Journal}
 use Rattle.entry_codec.specs.Standing.{journal, room_of}
 use Rattle.sync_store.specs.Fitting.{FitsFiles, FitsSome, ImagesStand}
 use Rattle.sync_store.specs.Moments.{IsBetween, JournalMoment, LeadsTo}
+use Rattle.sync_store.specs.Runs.{RunsBy}
 use Rattle.sync_store.specs.Store.{StoreValue, written_in}
-use Rattle.sync_course.specs.Acts.{Act, AtFront, Fail, Send, batches_in, commit_acts, events_of, next_bytes, sends_on}
-use Rattle.sync_course.specs.Events.{Event, TellsEvents as Tells}
-use Rattle.sync_course.proofs.ActLaws.{batches_in_commits, commit_acts-append, commits_send, events_of_commits}
-use Rattle.sync_course.proofs.CallLaws.{calls_parts}
-use Rattle.sync_course.proofs.ToldLaws.{told_broken, told_commits, told_sent}
+use Rattle.sync_course.specs.Acts.{Act, AreQuiet, AtFront, Does, Fail, Send, batches_in, commit_acts, events_of, next_bytes, sends_on}
+use Rattle.sync_course.specs.Events.{Break, Commit, Event, Hear, Miss, Pass, Read, TellsEvents as Tells}
+use Rattle.sync_course.proofs.ActLaws.{batches_in-append, batches_in_commits, commit_acts-append, commits_send, events_of_commits, quiet_events, quiet_front, quiet_sends}
+use Rattle.sync_course.proofs.ToldLaws.{told_broken, told_commits, told_quiet, told_sent}
 use Rattle.sync_node.specs.Batches.{Breaks}
 use Rattle.sync_node.specs.Courses.{FitsWith, ReadsAs, ReadsFront}
 use Rattle.sync_node.specs.Did.{ComesAtFronts, Did, DidSome, HasSentBy}
@@ -43,6 +45,17 @@ front_taken n a b = record {
 }
 
 -- ---- batches that were committed
+
+-- the calls of the batches of acts in two parts
+parts_calls : (acts first second : List Act) → acts ≡ first ++ second
+    → 4 * length (batches_in acts) ≡ 4 * length (batches_in second ++ batches_in first)
+parts_calls acts first second parts =
+    let all : length (batches_in acts) ≡ length (batches_in first) + length (batches_in second) =
+    ap (λ (l : List Act). length (batches_in l)) parts
+    ∙ ap (λ (l : Journal). length l) (batches_in-append first second)
+    ∙ length-append (batches_in first) (batches_in second) in
+    let turned = length-append (batches_in second) (batches_in first) in
+    omega (arith, all, turned)
 
 -- a moment between two of some batches
 pub at_batch : (clients : Meaning) (may j : Journal) (P : Journal → Type 0) (links : Links)
@@ -121,9 +134,14 @@ module _ (clients : Meaning) (s s' : StoreValue) (may : Journal) (o o' : Outside
     moments = batch_fronts;
   }
 
+  acts_parts : (stood : ReadsFront clients may s o o')
+      → commit_acts may ≡ commit_acts stood.front ++ commit_acts stood.others
+  acts_parts stood =
+      ap commit_acts stood.parts ∙ commit_acts-append stood.front stood.others
+
   -- some of them, and a call of the disk failed
   did_some : s.closed ≡ false → s'.closed ≡ true → (stood : ReadsFront clients may s o o')
-      → DidSome clients (commit_acts stood.front) stood.others s s' o o'
+      → DidSome clients (commit_acts stood.front) (commit_acts stood.others) s s' o o'
   did_some opened shut stood = record {
     goes = goes_led clients s s' o o' P Q fits run leads;
     tells = batch_tells stood.front;
@@ -134,13 +152,13 @@ module _ (clients : Meaning) (s s' : StoreValue) (may : Journal) (o o' : Outside
         subst (λ (l : Journal). ReadsAs clients o'.files (j ++ l)) (sym (batches_in_commits stood.front))
         (stood.reads j fit);
     calls =
-        subst (λ (l : Journal). MakesAtMost (4 * length (stood.others ++ l)) o o')
-        (sym (batches_in_commits stood.front))
-        (subst (λ (n : ℕ). MakesAtMost n o o') (calls_parts may stood.front stood.others stood.parts) made);
+        subst (λ (n : ℕ). MakesAtMost n o o')
+        (ap (λ (l : Journal). 4 * length l) (sym (batches_in_commits may))
+        ∙ parts_calls (commit_acts may) (commit_acts stood.front) (commit_acts stood.others)
+        (acts_parts stood)) made;
     breaks = appends.broken opened shut;
     moments =
-        subst (λ (acts : List Act). ComesAtFronts clients acts s o o')
-        (ap commit_acts stood.parts ∙ commit_acts-append stood.front stood.others) batch_fronts;
+        subst (λ (acts : List Act). ComesAtFronts clients acts s o o') (acts_parts stood) batch_fronts;
   }
 
   pub did_breaks : s.closed ≡ false → s'.closed ≡ true → CountRose o.disk_faults o'.disk_faults
@@ -153,6 +171,162 @@ module _ (clients : Meaning) (s s' : StoreValue) (may : Journal) (o o' : Outside
         parts = stood.parts;
         did = did_some opened shut stood;
         rose = rose;
+      }
+
+-- ---- quiet acts, whose batches were added in groups
+
+-- acts in two parts, of which the first has these batches
+pub record AreParted (acts : List Act) (front : Journal) : Type 0 where
+  pub first : List Act
+  pub second : List Act
+  pub parts : acts ≡ first ++ second
+  pub has : batches_in first ≡ front
+
+parted_behind : (a : Act) (acts : List Act) (front more : Journal) → AreParted acts front
+    → ((bs : List Act) → batches_in (a ∷ bs) ≡ more ++ batches_in bs)
+    → AreParted (a ∷ acts) (more ++ front)
+parted_behind a acts front more rest adds = record {
+  first = a ∷ rest.first;
+  second = rest.second;
+  parts = ap (λ (l : List Act). a ∷ l) rest.parts;
+  has = adds rest.first ∙ ap (λ (l : Journal). more ++ l) rest.has;
+}
+
+-- quiet acts are cut where their batches are
+parted : (acts : List Act) (front rest : Journal) → AreQuiet acts → batches_in acts ≡ front ++ rest
+    → AreParted acts front
+parted acts [] rest quiet is = record { first = []; second = acts; parts = refl; has = refl }
+parted [] (b ∷ front) rest quiet is = cc
+parted (Does (Commit c) ∷ acts) (b ∷ front) rest quiet is =
+    let same : c ≡ b = cc in
+    let others : batches_in acts ≡ front ++ rest = cc in
+    subst (λ (x : List Entry). AreParted (Does (Commit c) ∷ acts) (x ∷ front)) same
+    (parted_behind (Does (Commit c)) acts front (c ∷ []) (parted acts front rest quiet.1 others)
+    (λ bs. refl))
+parted (Does Pass ∷ acts) (b ∷ front) rest quiet is =
+    parted_behind (Does Pass) acts (b ∷ front) [] (parted acts (b ∷ front) rest quiet.1 is)
+    (λ bs. refl)
+parted (Does (Hear link reply) ∷ acts) (b ∷ front) rest quiet is = absurd quiet.0
+parted (Does (Miss link) ∷ acts) (b ∷ front) rest quiet is = absurd quiet.0
+parted (Does (Read link now) ∷ acts) (b ∷ front) rest quiet is = absurd quiet.0
+parted (Does (Break link) ∷ acts) (b ∷ front) rest quiet is = absurd quiet.0
+parted (Send n bytes ∷ acts) (b ∷ front) rest quiet is = absurd quiet.0
+parted (Fail n bytes count ∷ acts) (b ∷ front) rest quiet is = absurd quiet.0
+
+-- these acts were done of some, and the others were next
+pub record DidFront (clients : Meaning) (acts : List Act) (s s' : StoreValue)
+    (o o' : Outside) : Type 0 where
+  pub first : List Act
+  pub second : List Act
+  pub parts : acts ≡ first ++ second
+  pub did : DidSome clients first second s s' o o'
+
+module _ (clients : Meaning) (s s' : StoreValue) (o o' : Outside) (acts : List Act)
+    (quiet : AreQuiet acts) (fits : FitsSome clients s o.files)
+    (runs : RunsBy clients s s' o o' (batches_in acts)) where
+  abbrev all : Journal
+  all = batches_in acts
+
+  -- a moment between two of them
+  at_quiet : (j : Journal) (m : Moment)
+      → JournalMoment clients (IsBetween j all) (sent_of o.links.told) m
+      → AtFront clients acts j (sent_on o.links) m
+  at_quiet j m at =
+      let cut = at.has in
+      let two = parted acts cut.front cut.rest quiet cut.parts in
+      let both : AreQuiet (two.first ++ two.second) =
+      subst (λ (l : List Act). AreQuiet l) two.parts quiet in
+      record {
+        before = two.first;
+        behind = two.second;
+        parts = two.parts;
+        stands_for =
+            at.stands_for
+            ∙ ap journal (cut.is ∙ ap (λ (l : Journal). j ++ l) (sym two.has));
+        part = λ link. [];
+        begun = λ link. record { rest = next_bytes link two.second; whole = refl };
+        has_sent = λ link.
+            ap (λ (sent : List (List ℕ)). slice_index_or sent link []) at.nothing_sent
+            ∙ sym (append-nil (sent_on o.links link))
+            ∙ ap (λ (l : List ℕ). sent_on o.links link ++ l)
+            (sym (append-nil (sends_on link two.first)
+            ∙ quiet_sends link two.first (quiet_front two.first two.second both)));
+      }
+
+  quiet_fronts : ComesAtFronts clients acts s o o'
+  quiet_fronts told j fit =
+      let led = runs.leads fit.0 fit.1 j fit.2 in
+      record {
+        later = led.moments.later;
+        before = λ t m since at. elim (led.moments.before t m since at) [
+          | inl old ↦ inl old
+          | inr during ↦ inr (at_quiet j m during)
+        ];
+      }
+
+  quiet_sent : (bs : List Act) → AreQuiet bs → HasSentBy bs o o'
+  quiet_sent bs none told link =
+      ap (λ (links : Links). sent_on links link) runs.run.same_links
+      ∙ sym (append-nil (sent_on o.links link))
+      ∙ ap (λ (l : List ℕ). sent_on o.links link ++ l) (sym (quiet_sends link bs none))
+
+  quiet_tells : (bs : List Act) → AreQuiet bs → Tells (events_of bs) o o'
+  quiet_tells bs none =
+      told_quiet (events_of bs) (quiet_events bs none) o o' runs.run.same_links
+
+  quiet_goes : LetsNothingFall o o'
+  quiet_goes =
+      goes_led clients s s' o o' (λ j whole. IsBetween j all whole) (λ j whole. whole ≡ j ++ all)
+      fits runs.run runs.leads
+
+  quiet_calls : MakesAtMost (4 * length all) o o'
+  quiet_calls =
+      most_more (4 * runs.groups) (4 * length all) o o' (omega (arith, runs.few)) runs.calls.most
+
+  -- all of them, where the store is open still
+  pub did_quiet_acts : s'.closed ≡ false → Did clients acts s s' o o'
+  did_quiet_acts still = record {
+    goes = quiet_goes;
+    tells = quiet_tells acts quiet;
+    sent = quiet_sent acts quiet;
+    limit = runs.limit;
+    format = runs.format;
+    fits =
+        fits_grown clients s s' all o o' (λ j whole. IsBetween j all whole) runs.run.same_told still
+        runs.leads;
+    calls = quiet_calls;
+    file = runs.file;
+    appends = runs.calls.appends.all still;
+    moments = quiet_fronts;
+  }
+
+  -- some of them, and a call of the disk failed
+  pub did_some_quiet : s.closed ≡ false → s'.closed ≡ true → DidFront clients acts s s' o o'
+  did_some_quiet opened shut =
+      let stood =
+      reads_front clients s s' all o o' (λ j whole. IsBetween j all whole)
+      (λ j whole. whole ≡ j ++ all) fits runs.run.same_told (λ j whole is. is) runs.leads in
+      let two = parted acts stood.front stood.others quiet stood.parts in
+      let first = quiet_front two.first two.second (subst (λ (l : List Act). AreQuiet l) two.parts quiet) in
+      record {
+        first = two.first;
+        second = two.second;
+        parts = two.parts;
+        did = record {
+          goes = quiet_goes;
+          tells = quiet_tells two.first first;
+          sent = quiet_sent two.first first;
+          limit = runs.limit;
+          format = runs.format;
+          reads = λ j fit.
+              subst (λ (l : Journal). ReadsAs clients o'.files (j ++ l)) (sym two.has)
+              (stood.reads j fit);
+          calls =
+              subst (λ (n : ℕ). MakesAtMost n o o')
+              (parts_calls acts two.first two.second two.parts) quiet_calls;
+          breaks = runs.calls.appends.broken opened shut;
+          moments = subst (λ (l : List Act). ComesAtFronts clients l s o o') two.parts quiet_fronts;
+        };
       }
 
 -- a call on the links or the clock appends nothing

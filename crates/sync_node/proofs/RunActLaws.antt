@@ -5,7 +5,7 @@ use Rattle.outside.specs.Outside.{Outside}
 use Rattle.sync_rules.specs.Clients.{Meaning}
 use Rattle.sync_rules.specs.Facts.{Facts}
 use Rattle.sync_store.specs.Store.{StoreValue}
-use Rattle.sync_course.specs.Acts.{Act, Does, Fail, Send, commit_acts}
+use Rattle.sync_course.specs.Acts.{Act, Does, Fail, Send}
 use Rattle.sync_course.specs.Events.{Break, Commit, Pass}
 use Rattle.sync_course.specs.Links as course_links
 use Rattle.sync_course.specs.Links.{without_redundant}
@@ -15,6 +15,7 @@ use Rattle.sync_course.specs.Paths.{Path}
 use Rattle.sync_course.specs.Reading.{HasRead}
 use Rattle.sync_course.specs.declared.TheConstants.{MAX_OUTPUTS}
 use Rattle.sync_course.specs.Turns.{Between, Place, RunStep, Terms, Works, is_at_end, with_spot}
+use Rattle.sync_course.proofs.ActLaws.{may_owe_same}
 use Rattle.sync_course.proofs.LiftLaws.{begin_step, end_step, get_set, get_within, lifted_step, next_step, set_same}
 use Rattle.sync_course.proofs.PathLaws.{path_maps}
 use Rattle.sync_course.proofs.ToldLaws.{told_pass}
@@ -39,8 +40,11 @@ module _ (clients : Meaning) (terms : Terms) (n : ℕ) (place : Place) (within :
 
   lift_act : (p q : Owing Spot) (a : Act) → LinkActs clients terms.first n p a q
       → RunActs clients terms (lift_spot p) a (lift_spot q)
-  lift_act p q (Does e) step =
-      (step.0, lifted_step clients terms n place within p.at q.at e step.1, step.2)
+  lift_act p q (Does e) step = (
+    may_owe_same e p (lift_spot p) (λ link. refl) step.0,
+    lifted_step clients terms n place within p.at q.at e step.1,
+    step.2,
+  )
   lift_act p q (Send link bytes) step = elim step [
     | inl all ↦ inl (all.0, lifted_step clients terms n place within p.at q.at Pass all.1, all.2)
     | inr some ↦
@@ -71,16 +75,13 @@ module _ (clients : Meaning) (terms : Terms) (n : ℕ) (place : Place) (within :
   stands_lifted : (p : Owing Spot) (link : course_links.Link)
       → HasSoon (LinkActs clients terms.first n) (λ (q : Owing Spot). q.at.link ≡ link) p
       → HasSoon (RunActs clients terms) (λ (q : Owing Place). q.at.links ≡ slice_set place.links n link) (lift_spot p)
-  stands_lifted p link stands = elim stands [
-    | inl has ↦ inl (ap (λ (x : course_links.Link). slice_set place.links n x) has)
-    | inr will ↦
-        inr (record {
-          batch = will.batch;
-          next = lift_spot will.next;
-          steps = lift_act p will.next (Does (Commit will.batch)) will.steps;
-          has = ap (λ (x : course_links.Link). slice_set place.links n x) will.has;
-        })
-  ]
+  stands_lifted p link stands = record {
+    acts = stands.acts;
+    quiet = stands.quiet;
+    next = lift_spot stands.next;
+    path = lift_path p stands.next stands.acts stands.path;
+    has = ap (λ (x : course_links.Link). slice_set place.links n x) stands.has;
+  }
 
   stopped_lifted : (p : Spot) (link : course_links.Link) (s s' : StoreValue) (o o' : Outside)
       (e : Fault) → LinkStopped clients n (terms.first + n) p link s s' o o' e
@@ -90,6 +91,7 @@ module _ (clients : Meaning) (terms : Terms) (n : ℕ) (place : Place) (within :
       record {
         to = lift_spot stops.to;
         went = went_lifted (paid p) stops.to s s' o o' stops.went;
+        clear = stops.clear;
         stands = stands_lifted stops.to link stops.stands;
         ready = stops.ready;
       }
@@ -98,6 +100,7 @@ module _ (clients : Meaning) (terms : Terms) (n : ℕ) (place : Place) (within :
       record {
         to = lift_spot stops.to;
         went = went_lifted (paid p) stops.to s s' o o' stops.went;
+        clear = stops.clear;
         stands = stands_lifted stops.to link stops.stands;
         ready = stops.ready;
         batch = stops.batch;
@@ -112,8 +115,9 @@ module _ (clients : Meaning) (terms : Terms) (n : ℕ) (place : Place) (within :
         acts = stops.acts;
         path = lift_path (paid p) stops.to stops.acts stops.path;
         next = stops.next;
+        quiet = stops.quiet;
         beyond = lift_spot stops.beyond;
-        goes_on = lift_path stops.to stops.beyond (commit_acts stops.next) stops.goes_on;
+        goes_on = lift_path stops.to stops.beyond stops.next stops.goes_on;
         did = stops.did;
         stands = stands_lifted stops.to link stops.stands;
         rose = stops.rose;
@@ -126,7 +130,7 @@ module _ {clients : Meaning} (terms : Terms) where
       → RunWent clients terms p q s s o o
   run_passes {p = p} {q = q} {s = s} {o = o} step =
       went_one clients (RunActs clients terms) (paid p) (paid q) (Does Pass) s s o o
-      (λ link. refl, step, λ link. refl)
+      (tt, step, λ link. refl)
       (did_pass clients (Does Pass) s o refl (λ link. refl) (told_pass o o refl))
 
   run_joins : {p q r : Place} {s s1 s' : StoreValue} {o o1 o' : Outside}

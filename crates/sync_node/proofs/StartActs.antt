@@ -48,7 +48,7 @@ use Rattle.sync_node.proofs.KeepLaws.{commit_left, start_stops as leaves_by, was
 use Rattle.sync_node.proofs.OutLaws.{all_paid, still_so}
 use Rattle.sync_node.proofs.PrimLaws.{did_fail, did_send, off_link, on_link}
 use Rattle.sync_node.proofs.SafeLaws.{goes_none}
-use Rattle.sync_node.proofs.WentLaws.{commit_stopped, no_memory}
+use Rattle.sync_node.proofs.WentLaws.{commit_stopped, has_now, no_memory}
 use Rattle.std.proofs.lemmas.List.{length-append}
 use Rattle.sync_rules.proofs.Continuing.{continues_all}
 use Rattle.sync_rules.specs.declared.limits.TheConstants.{MAX_SESSIONS}
@@ -234,14 +234,14 @@ module _ (clients : Meaning) (x : Session) (s : StoreValue) (o : Outside) (batch
     owing_greeting = record { at = greets_at; owed = adds_to s.state.facts terms.first (Commit (session_batch x)) }
 
     begin_step : RunActs clients terms (paid before_at) (Does (Commit (session_batch x))) owing_greeting
-    begin_step = (λ link. refl, (refl, allowed, refl), λ link. refl)
+    begin_step = (tt, (refl, allowed, refl), λ link. refl)
 
     pub start_stops : (s' : StoreValue) (o' : Outside) (e : Fault)
         → CommitStops clients batch s s' o o' e
         → RunStopped clients terms before_at links s s' o o' e
     start_stops s' o' e stops =
         commit_stopped clients (RunActs clients terms) (λ (q : Owing Place). q.at.links ≡ links) (paid before_at) owing_greeting
-        (session_batch x) begin_step refl s s' o o' e
+        (session_batch x) (λ link. refl) begin_step refl s s' o o' e
         (subst (λ (b : List Entry). CommitStops clients b s s' o o' e) is stops)
 
     module _ (n : ℕ) (long : length links ≡ n) (numbered : x.number ≡ terms.first + n)
@@ -429,8 +429,10 @@ starts_memory {clients = clients} {x = x} {s = s} {o = o} r is ready =
       stopped = record {
         stops = λ terms left links moved still made.
             no_memory clients (RunActs clients terms) (λ (q : Owing Place). q.at.links ≡ links)
-            (paid (place_with (Attaches (x ∷ left)) links moved still made s.state.facts)) s o ready
-            (inl refl);
+            (paid (place_with (Attaches (x ∷ left)) links moved still made s.state.facts)) s o
+            (λ link. refl) ready
+            (has_now (RunActs clients terms) (λ (q : Owing Place). q.at.links ≡ links)
+            (paid (place_with (Attaches (x ∷ left)) links moved still made s.state.facts)) refl);
       };
       stops = record {
         ready = ready;

@@ -14,7 +14,7 @@ use Rattle.sync_rules.specs.Legal.{Allowed}
 use Rattle.sync_rules.specs.Sessions.{taken_from}
 use Rattle.sync_store.specs.Store.{StoreValue, format_meant, written_in}
 use Rattle.sync_course.specs.LinkTurns.{next_take}
-use Rattle.sync_node.specs.Working.{IsAble, IsOpenToTake}
+use Rattle.sync_node.specs.Working.{IsOpenToTake, MayGather}
 use Rattle.entry_codec.specs.Payloads.{payload_len}
 use Rattle.entry_codec.specs.Standing.{room_of}
 use Rattle.sync_store.specs.Commits.{needed}
@@ -73,11 +73,11 @@ takes_next {clients = clients} {session = session} {k = k} {r = r} {s = s} {batc
     }
 
 pub open_for : {clients : Meaning} {link : ℕ} {session session' : Session} {s : StoreValue}
-    {o : Outside} → session' ≡ session → IsAble clients link session s o
+    {o : Outside} → session' ≡ session → MayGather clients link session s o
     → IsOpenToTake clients session' s o
-open_for {clients = clients} {s = s} {o = o} same able =
+open_for {clients = clients} {s = s} {o = o} same may =
     subst (λ (x : Session). IsOpenToTake clients x s o) (sym same)
-    (record { ready = able.ready; settled = able.settled; known = able.known })
+    (record { waits = may.waits; settled = may.settled; known = may.known })
 
 -- ---- the limit
 

@@ -1,10 +1,12 @@
 -- What came of a batch that was to be committed, and of settling.
-use Rattle.std.specs.Prelude.{◌≡◌, ◌≢◌, ◌<◌, List, [], ◌∷◌, ◌++◌}
+use Rattle.std.specs.Prelude.{◌≡◌, ◌≢◌, ◌<◌, false, List, [], ◌∷◌, ◌++◌}
 use Rattle.sync_store.specs.Commits.{KeepsStore, needed}
+use Rattle.sync_store.specs.Gathering.{AddsBehind, KeepsJournal}
+use Rattle.sync_store.specs.Groups.{IsGathering}
 use Rattle.sync_store.specs.Store.{StoreValue}
 use Rattle.sync_node.specs.declared.fault.Fault.{Fault}
 use Rattle.outside.specs.Faults.{CountRose}
-use Rattle.outside.specs.Outside.{Outside}
+use Rattle.outside.specs.Outside.{DiskRun, Outside}
 use Rattle.sync_rules.specs.declared.entries.Entry.{Entry}
 use Rattle.sync_rules.specs.Clients.{Meaning}
 use Rattle.sync_rules.specs.Facts.{Journal, after_all, after_batches}
@@ -13,7 +15,8 @@ use Rattle.sync_rules.specs.Steps.{IsSettled}
 use Rattle.sync_store.specs.Ready.{IsReady}
 use Rattle.sync_store.specs.Runs.{AddsBatch}
 use Rattle.sync_course.specs.Acts.{commit_acts}
-use Rattle.sync_node.specs.Did.{Did, DidSome}
+use Rattle.sync_node.specs.Did.{Did, DidSome, Underway, UnderwayBreaks}
+use Rattle.sync_node.specs.Going.{LetsNothingFall}
 use Rattle.sync_node.specs.declared.fault.Fault.TheVariants as fault
 
 -- the store is as before in all that contracts ask of it, and the host is the same
@@ -37,7 +40,7 @@ pub record Breaks (clients : Meaning) (may : Journal) (s s' : StoreValue)
   pub front : Journal
   pub others : Journal
   pub parts : may ≡ front ++ others
-  pub did : DidSome clients (commit_acts front) others s s' o o'
+  pub did : DidSome clients (commit_acts front) (commit_acts others) s s' o o'
   pub rose : CountRose o.disk_faults o'.disk_faults
 
 -- ---- one batch
@@ -61,15 +64,42 @@ CommitStops clients batch s s' o o' fault.Memory = NodeStaysIdle clients s s' o 
 CommitStops clients batch s s' o o' fault.Full = HasNoRoom clients batch s s' o o'
 CommitStops clients batch s s' o o' fault.DiskFault = Breaks clients (batch ∷ []) s s' o o'
 
--- ---- settling
+-- ---- a batch that waits
 
--- these settling batches were committed
+-- the batch waits behind those that waited, or was added
+pub record Joined (clients : Meaning) (batch : List Entry) (s s' : StoreValue)
+    (o o' : Outside) : Type 0 where
+  pub under : Underway clients (commit_acts (batch ∷ [])) s s' o o'
+  pub facts : s'.state.facts ≡ after_all s.state.facts batch
+  pub waits : IsGathering clients s' o'.files
+
+-- nothing was gathered, and what waits does still, or was added
+pub record StoreStaysIdle (clients : Meaning) (s s' : StoreValue) (o o' : Outside) : Type 0 where
+  pub under : Underway clients [] s s' o o'
+  pub facts : s'.state.facts ≡ s.state.facts
+  pub waits : IsGathering clients s' o'.files
+
+-- with it the journal would pass the limit
+pub record FindsNoRoom (clients : Meaning) (batch : List Entry) (s s' : StoreValue)
+    (o o' : Outside) : Type 0 where
+  pub idle : StoreStaysIdle clients s s' o o'
+  pub over : s'.limit < needed s' batch
+
+abbrev pub JoinHalts : Meaning → List Entry → StoreValue → StoreValue → Outside → Outside → Fault
+    → Type 0
+JoinHalts clients batch s s' o o' fault.Memory = StoreStaysIdle clients s s' o o'
+JoinHalts clients batch s s' o o' fault.Full = FindsNoRoom clients batch s s' o o'
+JoinHalts clients batch s s' o o' fault.DiskFault = UnderwayBreaks clients [] s s' o o'
+
+-- ---- settling behind batches that wait
+
+-- these settling batches wait behind those that waited, or were added
 pub record SettlesBy (clients : Meaning) (s s' : StoreValue) (o o' : Outside) : Type 0 where
   pub more : Journal
   pub settling : AllSettling clients s.state.facts more
-  pub did : Did clients (commit_acts more) s s' o o'
+  pub under : Underway clients (commit_acts more) s s' o o'
   pub facts : s'.state.facts ≡ after_batches s.state.facts more
-  pub ready : IsReady clients s' o'.files
+  pub waits : IsGathering clients s' o'.files
 
 -- and nothing is left to be settled
 pub record Settled (clients : Meaning) (s s' : StoreValue) (o o' : Outside) : Type 0 where
@@ -79,12 +109,23 @@ pub record Settled (clients : Meaning) (s s' : StoreValue) (o o' : Outside) : Ty
 pub record SettlingBreaks (clients : Meaning) (s s' : StoreValue) (o o' : Outside) : Type 0 where
   pub more : Journal
   pub settling : AllSettling clients s.state.facts more
-  pub breaks : Breaks clients more s s' o o'
+  pub breaks : UnderwayBreaks clients (commit_acts more) s s' o o'
 
-abbrev pub SettleStops : Meaning → StoreValue → StoreValue → Outside → Outside → Fault → Type 0
-SettleStops clients s s' o o' fault.Memory = SettlesBy clients s s' o o'
-SettleStops clients s s' o o' fault.Full = ⊥
-SettleStops clients s s' o o' fault.DiskFault = SettlingBreaks clients s s' o o'
+abbrev pub SettleHalts : Meaning → StoreValue → StoreValue → Outside → Outside → Fault → Type 0
+SettleHalts clients s s' o o' fault.Memory = SettlesBy clients s s' o o'
+SettleHalts clients s s' o o' fault.Full = ⊥
+SettleHalts clients s s' o o' fault.DiskFault = SettlingBreaks clients s s' o o'
+
+-- ---- a flush
+
+-- what waited was added
+pub record Flushed (clients : Meaning) (s s' : StoreValue) (o o' : Outside) : Type 0 where
+  pub adds : AddsBehind clients s s' o o' []
+  pub still_open : s'.closed ≡ false
+  pub keeps : KeepsJournal s s'
+  pub run : DiskRun o o'
+  pub goes : LetsNothingFall o o'
+  pub ready : IsReady clients s' o'.files
 
 -- ---- a batch that is added beside the sessions
 

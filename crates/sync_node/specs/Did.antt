@@ -1,14 +1,16 @@
 -- What calls of a store and a host did, as acts: what is told of them, what the files stand for
 -- behind them, what went out, and what a crash at each moment of them would leave. No place of a
 -- run stands in it.
-use Rattle.std.specs.Prelude.{◌≡◌, ◌⊎◌, ℕ, ◌*◌, ◌≤◌, List, ◌++◌, length}
+use Rattle.std.specs.Prelude.{◌≡◌, ◌⊎◌, ℕ, ◌*◌, ◌≤◌, true, List, ◌++◌, length}
 use Rattle.frame_journal.specs.Appends.{Appends, BreaksAppends}
-use Rattle.outside.specs.Outside.{MakesAtMost, Moment, Outside}
+use Rattle.outside.specs.Faults.{CountRose}
+use Rattle.outside.specs.Outside.{DiskRun, MakesAtMost, Moment, Outside}
 use Rattle.outside.specs.Runs.{TellsAll}
 use Rattle.sync_rules.specs.Clients.{Meaning}
 use Rattle.sync_rules.specs.Facts.{Journal}
 use Rattle.sync_store.specs.Store.{StoreValue}
-use Rattle.sync_course.specs.Acts.{Act, AtFront, batches_in, commit_acts, events_of, sends_on}
+use Rattle.sync_store.specs.Gathering.{AddsBehind, GathersBehind}
+use Rattle.sync_course.specs.Acts.{Act, AreQuiet, AtFront, batches_in, events_of, sends_on}
 use Rattle.sync_course.specs.Events.{TellsEvents as Tells}
 use Rattle.sync_node.specs.Courses.{FitsWith, ReadsAs}
 use Rattle.sync_node.specs.Going.{LetsNothingFall}
@@ -48,11 +50,11 @@ pub record Did (clients : Meaning) (acts : List Act) (s s' : StoreValue)
   pub appends : Appends s.file s.end s'.end o o'
   pub moments : ComesAtFronts clients acts s o o'
 
--- These acts were done, and these batches were to be committed next: a call of the disk failed in
--- one of them or behind them. The files as they read stand for the journal with the batches of the
--- acts; a crash may leave some of the next ones too. The calls of the disk were those of appends to
--- the journal's file, up to the one that failed.
-pub record DidSome (clients : Meaning) (acts : List Act) (next : Journal) (s s' : StoreValue)
+-- These acts were done, and these were to be done next, which call nothing but the disk: a call of it
+-- failed in one of them or behind them. The files as they read stand for the journal with the
+-- batches of the first; a crash may leave some of the next ones too. The calls of the disk were those
+-- of appends to the journal's file, up to the one that failed.
+pub record DidSome (clients : Meaning) (acts next : List Act) (s s' : StoreValue)
     (o o' : Outside) : Type 0 where
   pub goes : LetsNothingFall o o'
   pub tells : Tells (events_of acts) o o'
@@ -61,6 +63,31 @@ pub record DidSome (clients : Meaning) (acts : List Act) (next : Journal) (s s' 
   pub format : s'.format ≡ s.format
   pub reads : (j : Journal) → FitsWith clients s o.files j
       → ReadsAs clients o'.files (j ++ batches_in acts)
-  pub calls : MakesAtMost (4 * length (next ++ batches_in acts)) o o'
+  pub calls : MakesAtMost (4 * length (batches_in next ++ batches_in acts)) o o'
   pub breaks : BreaksAppends s.file s.end o o'
-  pub moments : ComesAtFronts clients (acts ++ commit_acts next) s o o'
+  pub moments : ComesAtFronts clients (acts ++ next) s o o'
+
+-- ---- acts whose batches wait
+
+-- These acts are under way: batches that are gathered, and what calls nothing. Each batch was added
+-- or waits behind those that waited before, to be added by a flush; nothing was called but the disk.
+pub record Underway (clients : Meaning) (acts : List Act) (s s' : StoreValue)
+    (o o' : Outside) : Type 0 where
+  pub quiet : AreQuiet acts
+  pub gathers : GathersBehind clients s s' o o' (batches_in acts)
+  pub run : DiskRun o o'
+  pub goes : LetsNothingFall o o'
+  pub limit : s'.limit ≡ s.limit
+  pub format : s'.format ≡ s.format
+
+-- the same, and a call of the disk failed in adding them
+pub record UnderwayBreaks (clients : Meaning) (acts : List Act) (s s' : StoreValue)
+    (o o' : Outside) : Type 0 where
+  pub quiet : AreQuiet acts
+  pub adds : AddsBehind clients s s' o o' (batches_in acts)
+  pub shut : s'.closed ≡ true
+  pub run : DiskRun o o'
+  pub goes : LetsNothingFall o o'
+  pub limit : s'.limit ≡ s.limit
+  pub format : s'.format ≡ s.format
+  pub rose : CountRose o.disk_faults o'.disk_faults

@@ -5,6 +5,7 @@ use Rattle.outside.specs.Faults.{CountRose}
 use Rattle.outside.specs.Outside.{Outside}
 use Rattle.sync_rules.specs.Clients.{Meaning}
 use Rattle.sync_rules.specs.Steps.{IsSettled}
+use Rattle.sync_store.specs.Groups.{IsGathering}
 use Rattle.sync_store.specs.Ready.{IsReady}
 use Rattle.sync_store.specs.Store.{StoreValue}
 use Rattle.sync_node.specs.declared.fault.Fault.{Fault}
@@ -61,6 +62,46 @@ pub record LinkWorks {T : Type 0} (Went : OfLink T) (Stops : OfLink Fault) (clie
   pub went : IfOk result (Went clients number l l' s s' o o')
   pub stopped : IfErr result (Stops clients number l l' s s' o o')
   pub keeps : LinkKeeps clients number l l' s s' o o' (stop_of result)
+
+-- ---- work on one link, before what waits of it was added
+
+-- by the fault: where memory or room was wanting the store gathers still; else a call of the disk
+-- failed, and the count of its failures rose
+abbrev pub WaitsOrRose : Meaning → StoreValue → Outside → Outside → Fault → Type 0
+WaitsOrRose clients s o o' fault.Memory = IsGathering clients s o'.files
+WaitsOrRose clients s o o' fault.Full = IsGathering clients s o'.files
+WaitsOrRose clients s o o' fault.DiskFault = CountRose o.disk_faults o'.disk_faults
+
+abbrev pub HasOrHalts : Type 0 → Meaning → StoreValue → Outside → Outside → Option Fault → Type 0
+HasOrHalts Has clients s o o' None = Has
+HasOrHalts Has clients s o o' (Some e) = WaitsOrRose clients s o o' e
+
+pub record StoreGathers (Has : Type 0) (clients : Meaning) (s s' : StoreValue)
+    (o o' : Outside) (stop : Option Fault) : Type 0 where
+  pub same_limit : s'.limit ≡ s.limit
+  pub same_format : s'.format ≡ s.format
+  pub answered : HasOrHalts Has clients s' o o' stop
+
+-- the store gathers and is settled, and its sessions are those of before
+pub record StaysGathering (clients : Meaning) (s s' : StoreValue) (o' : Outside) : Type 0 where
+  pub waits : IsGathering clients s' o'.files
+  pub settled : IsSettled clients s'.state.facts
+  pub same_sessions : s'.state.facts.sessions ≡ s.state.facts.sessions
+  pub same_begun : s'.state.facts.begun ≡ s.state.facts.begun
+
+pub record LinkGathers (clients : Meaning) (number : ℕ) (l l' : Link) (s s' : StoreValue)
+    (o o' : Outside) (stop : Option Fault) : Type 0 where
+  pub link : LinkGoes number l l' o o'
+  pub store : StoreGathers (StaysGathering clients s s' o') clients s s' o o' stop
+
+pub record GatherWorks {T : Type 0} (Went : OfLink T) (Halts : OfLink Fault) (clients : Meaning)
+    (number : ℕ) (l l' : Link) (s s' : StoreValue) (o o' : Outside)
+    (result : Result T Fault) : Type 0 where
+  pub went : IfOk result (Went clients number l l' s s' o o')
+  pub halted : IfErr result (Halts clients number l l' s s' o o')
+  pub keeps : LinkGathers clients number l l' s s' o o' (stop_of result)
+
+-- ---- work on all links
 
 -- links that were attached are attached still, and may go on
 pub record StayAttached (clients : Meaning) (links links' : List Link) (s s' : StoreValue)

@@ -1,7 +1,9 @@
 -- How a link stands, and what hearing and sending on it does.
 use Rattle.sync_course.specs.declared.ends.LinkEnd.{LinkEnd}
-use Rattle.std.specs.Prelude.{◌≡◌, ℕ, List, Option, Some, None, Contains, ◌⊎◌, Result, Ok, Err, length, slice_get}
+use Rattle.std.specs.Prelude.{◌≡◌, ℕ, zero, suc, Bool, true, false, cond, List, Option, Some, None, Contains, ◌⊎◌, Result, Ok, Err, length, slice_get}
 use Rattle.sync_ids.specs.declared.records.Record.{Record}
+use Rattle.sync_node.specs.declared.fault.Fault.{Fault}
+use Rattle.sync_node.specs.declared.fault.Fault.TheVariants as fault
 use Rattle.sync_node.specs.declared.link.Link.{Link}
 use Rattle.outside.specs.declared.failed.Failed.{Failed}
 use Rattle.outside.specs.Host.{SendsOnLink, SendsPart}
@@ -44,6 +46,25 @@ pub record SendsOn (link : ℕ) (bytes : List ℕ) (old new : Link) (o o' : Outs
   pub call : LinkCall (SendsPart o link bytes) o o'
   pub sends : SendsOnLink link bytes result o.links o'.links
   pub ends : EndsBy result old new
+
+-- so many outputs, whose bytes these are, went out in one call, or a front of the bytes; where there
+-- were none nothing was called
+abbrev pub SendsOuts : {H : Type 0} → ℕ → ℕ → List ℕ → Link → Link → H → H → Outside → Outside
+    → Type 0
+SendsOuts zero link bytes old new host host' o o' = (new ≡ old) × (host' ≡ host)
+SendsOuts (suc made) link bytes old new host host' o o' = SendsOn link bytes old new o o'
+
+-- whether a call of the disk failed
+abbrev pub has_broken : Result (Unit {0}) Fault → Bool
+has_broken (Err fault.DiskFault) = true
+has_broken _ = false
+
+-- what sending so many outputs answers, by what stopped it, if anything did: on a link that is
+-- closed by then there is no next output that could find no room
+abbrev pub outs_answer : Result (Unit {0}) Fault → ℕ → Bool → Result ℕ Fault
+outs_answer (Ok _) made is_open = Ok made
+outs_answer (Err fault.Full) made is_open = cond is_open (Err fault.Full) (Ok made)
+outs_answer (Err e) made is_open = Err e
 
 -- a link is as it was, or a send on it failed
 abbrev pub StaysOrFails : Link → Link → Type 0

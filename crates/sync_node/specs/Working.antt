@@ -7,6 +7,7 @@ use Rattle.sync_rules.specs.Clients.{Meaning}
 use Rattle.sync_rules.specs.Facts.{session_at}
 use Rattle.sync_rules.specs.Steps.{IsSettled}
 use Rattle.sync_store.specs.Store.{StoreValue}
+use Rattle.sync_store.specs.Groups.{IsGathering}
 use Rattle.sync_store.specs.Ready.{IsReady}
 use Rattle.sync_node.specs.declared.link.Link.{Link}
 use Rattle.sync_course.specs.declared.ends.LinkEnd.TheVariants as link_end
@@ -31,10 +32,18 @@ pub record MayWork (clients : Meaning) (link : ℕ) (l : Link) (s : StoreValue)
   pub able : IsAble clients link l.session s o
   pub waits : HasGivenItems l
 
+-- the same in the middle of a piece: batches may wait
+pub record MayGather (clients : Meaning) (link : ℕ) (session : Session) (s : StoreValue)
+    (o : Outside) : Type 0 where
+  pub waits : IsGathering clients s o.files
+  pub settled : IsSettled clients s.state.facts
+  pub known : session_at s.state.facts.sessions session.number ≡ Some session
+  pub dialled : link < o.links.dialled
+
 -- a store in which a session may take a record
 pub record IsOpenToTake (clients : Meaning) (session : Session) (s : StoreValue)
     (o : Outside) : Type 0 where
-  pub ready : IsReady clients s o.files
+  pub waits : IsGathering clients s o.files
   pub settled : IsSettled clients s.state.facts
   pub known : session_at s.state.facts.sessions session.number ≡ Some session
 

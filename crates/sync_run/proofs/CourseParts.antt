@@ -60,7 +60,7 @@ passes : (clients : Meaning) (terms : Terms) (p q : Place) (s : StoreValue) (o :
     → RunStep clients terms p Pass q → RunWent clients terms p q s s o o
 passes clients terms p q s o steps =
     went_one clients (RunActs clients terms) (paid p) (paid q) (Does Pass) s s o o
-    (λ link. refl, steps, λ link. refl)
+    (tt, steps, λ link. refl)
     (did_pass clients (Does Pass) s o refl (λ link. refl) (told_pass o o refl))
 
 -- a run stopped behind what was done, by what the call that stopped says of each fault

@@ -173,6 +173,7 @@ module _ (clients : Meaning) (s : StoreValue) (o0 o1 : Outside) (calms : DialsOn
     to = paid from;
     path = refl;
     next = [];
+    quiet = tt;
     beyond = paid from;
     goes_on = refl;
     sent = λ told link. calms.sent link ∙ sym (append-nil (sent_on o0.links link));

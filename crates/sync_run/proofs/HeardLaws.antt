@@ -13,8 +13,8 @@ use Rattle.sync_rules.specs.Clients.{Meaning}
 use Rattle.sync_rules.specs.Facts.{Facts}
 use Rattle.sync_course.specs.declared.ends.LinkEnd.{LinkEnd}
 use Rattle.sync_course.specs.declared.ends.LinkEnd.TheVariants as end
-use Rattle.sync_course.specs.Acts.{commit_acts}
-use Rattle.sync_course.specs.Events.{Commit, Event, heard_after}
+use Rattle.sync_course.specs.Acts.{Act, AreQuiet, Does, Fail, IsQuiet, Send}
+use Rattle.sync_course.specs.Events.{Break, Commit, Event, Hear, Miss, Pass, Read, heard_after}
 use Rattle.sync_course.specs.Free.{first_free, forget}
 use Rattle.sync_course.proofs.FreeLaws.{run_by_cases, run_is_free, step_is_free}
 use Rattle.sync_course.proofs.HeardLaws.{at_of, bytes_of, events_tell, free_path_adds, none_tell}
@@ -120,13 +120,25 @@ path_told clients terms sessions f es last n path few i =
           ∙ sym (no_link last.links i (omega (arith, few, past)))
     ]
 
--- batches that are committed bring nothing
-pub commits_bring : (clients : Meaning) (terms : Terms) (p q : Owing Place) (bs : List (List Entry))
-    → Path (RunActs clients terms) p (commit_acts bs) q → (i : ℕ)
+-- quiet acts bring nothing
+pub quiet_brings : (clients : Meaning) (terms : Terms) (p q : Owing Place) (acts : List Act)
+    → AreQuiet acts → Path (RunActs clients terms) p acts q → (i : ℕ)
     → heard_at_place q.at i ≡ heard_at_place p.at i
-commits_bring clients terms p q [] path i = ap (λ (x : Owing Place). heard_at_place x.at i) path
-commits_bring clients terms p q (b ∷ bs) path i =
-    commits_bring clients terms path.0 q bs path.2 i
-    ∙ free_path_adds clients terms.first (Commit b ∷ []) (forget p.at) (forget path.0.at) i
-    (forget path.0.at, step_is_free clients terms p.at path.0.at (Commit b) path.1.1, refl)
+quiet_brings clients terms p q [] quiet path i =
+    ap (λ (x : Owing Place). heard_at_place x.at i) path
+quiet_brings clients terms p q (Does e ∷ acts) quiet path i =
+    quiet_brings clients terms path.0 q acts quiet.1 path.2 i
+    ∙ free_path_adds clients terms.first (e ∷ []) (forget p.at) (forget path.0.at) i
+    (forget path.0.at, step_is_free clients terms p.at path.0.at e path.1.1, refl)
+    ∙ ap (λ (l : List ℕ). heard_at_place p.at i ++ l) (none_by e quiet.0)
     ∙ append-nil (heard_at_place p.at i)
+  where
+    none_by : (e : Event) → IsQuiet (Does e) → bytes_of i (e ∷ []) ≡ []
+    none_by (Commit b) quiet = refl
+    none_by Pass quiet = refl
+    none_by (Hear link reply) quiet = absurd quiet
+    none_by (Miss link) quiet = absurd quiet
+    none_by (Read link now) quiet = absurd quiet
+    none_by (Break link) quiet = absurd quiet
+quiet_brings clients terms p q (Send n bytes ∷ acts) quiet path i = absurd quiet.0
+quiet_brings clients terms p q (Fail n bytes count ∷ acts) quiet path i = absurd quiet.0

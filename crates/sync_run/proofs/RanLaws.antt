@@ -29,13 +29,13 @@ use Rattle.sync_store.specs.Store.{StoreValue}
 use Rattle.store_commands.specs.Commit.{HasLastGeneration, MayMigrate, needed_by}
 use Rattle.store_commands.specs.Load.{HasFacts}
 use Rattle.store_commands.specs.Stopping.{StoodFor}
-use Rattle.sync_course.specs.Acts.{Act, AtFront, Does, batches_in, commit_acts, events_of}
+use Rattle.sync_course.specs.Acts.{Act, AtFront, batches_in, events_of}
 use Rattle.sync_course.specs.Acts.{next_bytes, sends_on}
 use Rattle.sync_course.specs.Closing.{Closing}
 use Rattle.sync_course.specs.Events.{Commit, Event, GrowsBy, batches_of, failures_after, has_failure}
-use Rattle.sync_course.specs.Free.{Free, FreeStep, first_free, forget, owing_free}
+use Rattle.sync_course.specs.Free.{Free, first_free, forget, owing_free}
 use Rattle.sync_course.specs.Links as course_links
-use Rattle.sync_course.specs.Owing.{ActStep, Owing, paid}
+use Rattle.sync_course.specs.Owing.{Owing, OwesNothing, paid}
 use Rattle.sync_course.specs.Paths.{Path}
 use Rattle.sync_course.specs.Quiet.{EndsQuiet}
 use Rattle.sync_course.specs.Story.{AllIsSent, AllSuitPlanned, FreeActs, LinkFailed, MomentStands}
@@ -66,7 +66,7 @@ use Rattle.sync_run.specs.Headline.{SentWhole, StandsForRun, sent_at_moment}
 use Rattle.sync_run.specs.Parts.{AnswersAt, FillsAt, RanOnLinks, undialled_link}
 use Rattle.sync_run.proofs.LeavingLaws.{reads_still}
 use Rattle.sync_run.proofs.EndLaws.{course_by_heard}
-use Rattle.sync_run.proofs.HeardLaws.{commits_bring, path_few, path_told, told_of}
+use Rattle.sync_run.proofs.HeardLaws.{path_few, path_told, quiet_brings, told_of}
 use Rattle.sync_run.specs.Ran.{RanTold}
 use Rattle.sync_run.proofs.TellLaws.{nothing_sent, silent_by, told_back}
 
@@ -122,7 +122,7 @@ module _ (clients : Meaning) (limits : Limits) (words : List LinkWords) (s : Sto
   start = first_place ran.sessions (facts loaded.of)
 
   abbrev all : List Act
-  all = ran.did.acts ++ commit_acts ran.did.next
+  all = ran.did.acts ++ ran.did.next
 
   abbrev first : ℕ
   first = (facts loaded.of).begun
@@ -239,7 +239,7 @@ module _ (clients : Meaning) (limits : Limits) (words : List LinkWords) (s : Sto
   whole_path : Path (RunActs clients terms) (paid start) all ran.did.beyond
   whole_path =
       path_then (RunActs clients terms) (paid start) ran.did.to ran.did.beyond ran.did.acts
-      (commit_acts ran.did.next) ran.did.path ran.did.goes_on
+      ran.did.next ran.did.path ran.did.goes_on
 
   -- by the laws of what stands at each moment, and of what suits a run
   module _ (stand : (clients : Meaning) (j : Journal) (acts : List Act) (to : Owing Free)
@@ -258,8 +258,8 @@ module _ (clients : Meaning) (limits : Limits) (words : List LinkWords) (s : Sto
         ran.did.beyond all whole_path in
         let heard : place_heard ran.did.beyond.at ≡ heard_on o3.links =
         same_function (place_heard ran.did.beyond.at) (heard_on o3.links)
-        (λ link. commits_bring clients terms ran.did.to ran.did.beyond ran.did.next ran.did.goes_on
-        link
+        (λ link. quiet_brings clients terms ran.did.to ran.did.beyond ran.did.next ran.did.quiet
+        ran.did.goes_on link
         ∙ sym (told_heard told.heard told.heard_are link)) in
         subst (λ (bs : Journal). Suit (heard_on o3.links) bs) ways.thins.batches
         (subst (λ (h : ℕ → List ℕ). Suit h (batches_of ways.events)) heard
@@ -303,12 +303,11 @@ module _ (clients : Meaning) (limits : Limits) (words : List LinkWords) (s : Sto
     at_end =
         at_front (record { files = read_files told.two; sent = sent_of o3.links.told }) (record {
           before = ran.did.acts;
-          behind = commit_acts ran.did.next;
+          behind = ran.did.next;
           parts = refl;
           stands_for = reads_end told;
           part = λ link. [];
-          begun =
-              λ link. record { rest = next_bytes link (commit_acts ran.did.next); whole = refl };
+          begun = λ link. record { rest = next_bytes link ran.did.next; whole = refl };
           has_sent = λ link. sent_is told link ∙ sym (append-nil (sends_on link ran.did.acts));
         })
 
@@ -449,13 +448,7 @@ module _ (clients : Meaning) (limits : Limits) (words : List LinkWords) (s : Sto
   -- by the laws of what was sent, and of what stands at the end of a run that is over
   module _ (tests : run_test s.state.facts words ≡ None)
       (whole : (clients : Meaning) (j : Journal) (acts : List Act) (to : Owing Free)
-      → Legal clients j → FreeActs clients j acts to → ((link : ℕ) → to.owed link ≡ [])
-      → AllIsSent j acts)
-      (full : (clients : Meaning) (j : Journal) (acts : List Act) (to next : Owing Free)
-      (e : Event) → Legal clients j → FreeActs clients j acts to
-      → ActStep (λ (x : Free). x.facts) (facts j).begun (FreeStep clients (facts j).begun) to
-      (Does e) next
-      → AllIsSent j acts)
+      → Legal clients j → FreeActs clients j acts to → OwesNothing to → AllIsSent j acts)
       (quiet : (clients : Meaning) (terms : Terms) (sessions : List Session) (j : Journal)
       (events : List Event) (last : Place) → Legal clients j
       → Course clients terms sessions (facts j) events last → is_over terms.quiet last ≡ true
@@ -476,11 +469,7 @@ module _ (clients : Meaning) (limits : Limits) (words : List LinkWords) (s : Sto
 
     filled_sent : FillsAt clients terms ran.did.to now → AllIsSent loaded.of ran.did.acts
     filled_sent fills =
-        let step =
-        run_acts_are_free clients terms ran.did.to fills.next (Does (Commit fills.batch) ∷ [])
-        (fills.next, fills.steps, refl) in
-        full clients loaded.of ran.did.acts (owing_free ran.did.to) step.0 (Commit fills.batch)
-        legal free step.1
+        whole clients loaded.of ran.did.acts (owing_free ran.did.to) legal free fills.all_sent
 
     sent_full : r ≡ Err outcome.Full → AllSentWhenFull clients two o0 o3
     sent_full is told begin final began at_end i begun = elim (answer_as (Err outcome.Full) is) [

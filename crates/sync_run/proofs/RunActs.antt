@@ -37,7 +37,7 @@ use Rattle.sync_course.specs.Events.{Event, TellsEvents}
 use Rattle.sync_course.specs.Owing.{Owing, paid}
 use Rattle.sync_course.specs.Paths.{Path}
 use Rattle.sync_course.specs.Turns.{Ended, Place, Terms, first_place}
-use Rattle.sync_course.proofs.ActLaws.{batches_in-append, batches_in_commits, commit_acts-append}
+use Rattle.sync_course.proofs.ActLaws.{batches_in-append, batches_in_commits, commit_acts-append, commits_are_quiet}
 use Rattle.sync_course.proofs.ActLaws.{commits_send, events_of-append, events_of_commits}
 use Rattle.sync_course.proofs.ActLaws.{sends_on-append}
 use Rattle.sync_course.proofs.PathLaws.{path_then}
@@ -110,6 +110,7 @@ module _ (clients : Meaning) (limits : Limits) (links : List Dialled) (s : Store
       to = to;
       path = w.path;
       next = [];
+      quiet = tt;
       beyond = to;
       goes_on = refl;
       sent = w.did.sent;
@@ -189,6 +190,7 @@ module _ (clients : Meaning) (limits : Limits) (links : List Dialled) (s : Store
           to = here.to;
           path = here.path;
           next = here.next;
+          quiet = here.quiet;
           beyond = here.beyond;
           goes_on = here.goes_on;
           sent = here.did.sent;
@@ -209,6 +211,7 @@ module _ (clients : Meaning) (limits : Limits) (links : List Dialled) (s : Store
       led j fit here.to here.went (Err outcome.Full)
       (inl (
         record {
+          all_sent = here.clear;
           batch = here.batch;
           next = here.next;
           steps = here.steps;
@@ -262,17 +265,17 @@ module _ (clients : Meaning) (terms : Terms) (from mid : Place) (j k : Journal) 
       ∙ ap (λ (l : Journal). j ++ l) (sym (batches_in-append first.acts did.acts))
 
   pub behind_moments : TellsAll o
-      → SinceThen o o' (AtFront clients (first.acts ++ (did.acts ++ commit_acts did.next)) j
+      → SinceThen o o' (AtFront clients (first.acts ++ (did.acts ++ did.next)) j
       (sent_on o.links))
   behind_moments told =
-      let rest : List Act = did.acts ++ commit_acts did.next in
+      let rest : List Act = did.acts ++ did.next in
       since_then o o1 o'
-      (AtFront clients (first.acts ++ commit_acts first.next) j (sent_on o.links))
+      (AtFront clients (first.acts ++ first.next) j (sent_on o.links))
       (AtFront clients rest k (sent_on o1.links))
       (AtFront clients (first.acts ++ rest) j (sent_on o.links))
       (λ m before. front_wide clients first.acts rest j (sent_on o.links) m
       (subst (λ (acts : List Act). AtFront clients acts j (sent_on o.links) m)
-      (ap (λ (bs : Journal). first.acts ++ commit_acts bs) none ∙ append-nil first.acts) before))
+      (ap (λ (acts : List Act). first.acts ++ acts) none ∙ append-nil first.acts) before))
       (λ m behind. front_shift clients first.acts rest j (sent_on o.links) (sent_on o1.links) m
       (first.sent told)
       (subst (λ (l : Journal). AtFront clients rest l (sent_on o1.links) m) is behind))
@@ -286,6 +289,7 @@ module _ (clients : Meaning) (terms : Terms) (from mid : Place) (j k : Journal) 
         (subst (λ (p : Owing Place). Path (RunActs clients terms) (paid from) first.acts p) at
         first.path) did.path;
     next = did.next;
+    quiet = did.quiet;
     beyond = did.beyond;
     goes_on = did.goes_on;
     sent = λ told link.
@@ -297,7 +301,7 @@ module _ (clients : Meaning) (terms : Terms) (from mid : Place) (j k : Journal) 
     reads = subst (λ (l : Journal). ReadsAs clients o'.files l) now_is did.reads;
     moments = λ told.
         subst (λ (acts : List Act). SinceThen o o' (AtFront clients acts j (sent_on o.links)))
-        (sym (append_assoc first.acts did.acts (commit_acts did.next))) (behind_moments told);
+        (sym (append_assoc first.acts did.acts did.next)) (behind_moments told);
   }
 
 -- ---- settling
@@ -312,7 +316,7 @@ settling_acts clients terms sessions f [] settling = refl
 settling_acts clients terms sessions f (b ∷ bs) settling = (
   paid (first_place sessions (after_all f b)),
   (
-    λ link. refl,
+    tt,
     (settling.0, refl),
     λ link. sym (ap (λ (rs : List Record). spelled rs)
         (silent_adds_nothing f (terms.first + link) b (settling_silent clients f b settling.0.2))),
@@ -387,7 +391,8 @@ module _ (clients : Meaning) (limits : Limits) (links : List Dialled) (s s1 : St
       to = settled_at;
       path =
           settling_acts clients terms (sessions_from (facts j).begun links) (facts j) front split.0;
-      next = others;
+      next = commit_acts others;
+      quiet = commits_are_quiet others;
       beyond = settled_beyond;
       goes_on =
           settling_acts clients terms (sessions_from (facts j).begun links)

@@ -10,10 +10,10 @@ use Rattle.sync_rules.specs.declared.entries.Session.{Session}
 use Rattle.sync_rules.specs.Clients.{Meaning}
 use Rattle.sync_rules.specs.Facts.{Facts, Journal, facts}
 use Rattle.sync_store.specs.Store.{StoreValue}
-use Rattle.sync_course.specs.Acts.{Act, AtFront, Does, batches_in, commit_acts, events_of}
+use Rattle.sync_course.specs.Acts.{Act, AreQuiet, AtFront, Does, batches_in, events_of}
 use Rattle.sync_course.specs.Closing.{Closing, closing}
 use Rattle.sync_course.specs.Events.{Commit, TellsEvents}
-use Rattle.sync_course.specs.Owing.{Owing, paid}
+use Rattle.sync_course.specs.Owing.{Owing, OwesNothing, paid}
 use Rattle.sync_course.specs.Paths.{Path}
 use Rattle.sync_course.specs.Turns.{Attaches, Between, Ended, Place, Terms, first_place, is_over}
 use Rattle.sync_node.specs.declared.link.Link.{Link}
@@ -108,30 +108,33 @@ closed_by over links = record { over = over; ends = map (λ (l : Link). l.end) l
 -- ---- the run on links that were dialled
 
 -- What calls did of a run over a journal, as acts: these were done, and lead from one place to
--- another; these batches were to be committed there next. What went out and what the files read as
--- is by the acts, and each moment that came with the calls is at a front of them all.
+-- another; from there some batches were to be committed next. What went out and what the files read
+-- as is by the acts, and each moment that came with the calls is at a front of them all.
 pub record RunDid (clients : Meaning) (terms : Terms) (from : Place) (j : Journal)
     (o o' : Outside) : Type 0 where
   pub acts : List Act
   pub to : Owing Place
   pub path : Path (RunActs clients terms) (paid from) acts to
-  pub next : Journal
+  pub next : List Act
+  pub quiet : AreQuiet next
   pub beyond : Owing Place
-  pub goes_on : Path (RunActs clients terms) to (commit_acts next) beyond
+  pub goes_on : Path (RunActs clients terms) to next beyond
   pub sent : HasSentBy acts o o'
   pub reads : ReadsAs clients o'.files (j ++ batches_in acts)
   pub moments : TellsAll o
-      → SinceThen o o' (AtFront clients (acts ++ commit_acts next) j (sent_on o.links))
+      → SinceThen o o' (AtFront clients (acts ++ next) j (sent_on o.links))
 
 -- there the run ended: all that was owed was sent, and its links closed so
 pub record EndsAt (limits : Limits) (to : Owing Place) (ends : Closing) : Type 0 where
   pub at_end : to.at.stage ≡ Ended
-  pub all_sent : (link : ℕ) → to.owed link ≡ []
+  pub all_sent : OwesNothing to
   pub closes : ends ≡ closing limits.quiet to.at
 
--- the next step from there commits a batch with which this journal passes the greatest length
+-- there nothing was owed, and the next step commits a batch with which this journal passes the
+-- greatest length
 pub record FillsAt (clients : Meaning) (terms : Terms) (to : Owing Place)
     (j : Journal) : Type 0 where
+  pub all_sent : OwesNothing to
   pub batch : List Entry
   pub next : Owing Place
   pub steps : RunActs clients terms to (Does (Commit batch)) next

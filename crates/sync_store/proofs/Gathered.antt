@@ -2,15 +2,12 @@
 use Rattle.std.proofs.Common.{◌≡◌, ℕ, ◌+◌, ◌*◌, ◌≤◌, Bool, true, false, List, [], ◌∷◌, ◌++◌, length}
 use Rattle.std.proofs.Common.{Option, Result, Ok, Err, refl, sym, ap, ◌∙◌, subst, inl, inr, arith}
 use Rattle.std.proofs.Common.{append-nil, append_assoc}
-use Rattle.std.specs.Prelude.{◌==◌, nat_le, IfErr, OnOk}
-use Rattle.std.proofs.lemmas.Bool.Decides.{nat_tests}
+use Rattle.std.specs.Prelude.{◌==◌, IfErr, OnOk}
 use Rattle.outside.specs.Files.{Two, File}
 use Rattle.outside.specs.Outside.{Outside, DiskRun, MakesAtMost, MakesCalls, MakesJust}
 use Rattle.outside.proofs.CallSteps.{told_back}
 use Rattle.frame_journal.specs.Group.{IsJoined, flush_calls, group_len}
 use Rattle.frame_journal.proofs.GroupSteps.{joined_none}
-use Rattle.frame_journal.specs.declared.group.TheConstants.{MAX_GROUP}
-use Rattle.outside.specs.declared.limits.TheConstants.{MAX_FRAME}
 use Rattle.journal_state.specs.Whole.{KnowsJudgements, StateValue}
 use Rattle.sync_rules.specs.declared.entries.Entry.{Entry}
 use Rattle.sync_rules.specs.Clients.{Meaning}
@@ -22,12 +19,14 @@ use Rattle.sync_store.specs.Store.{IsStore, NoneWaits, StoreValue, format_meant,
 use Rattle.sync_store.specs.Appending.{AppendsFor}
 use Rattle.sync_store.specs.Commits.{KeepsStore}
 use Rattle.sync_store.specs.Fitting.{FitsSome, ImagesStand}
-use Rattle.sync_store.specs.Gathering.{GathersSteps, IsAdded, IsUnderway, KeepsJournal}
+use Rattle.sync_store.specs.Gathering.{IsAdded, IsUnderway, KeepsJournal}
 use Rattle.sync_store.specs.Gathering.{MakesRoom}
 use Rattle.sync_store.specs.Groups.{AddsAll, HasGathered, HasGroupRoom, IsGathering, NoneOrAll}
 use Rattle.sync_store.specs.Moments.{IsBetween, groups_for}
 use Rattle.sync_store.specs.Ready.{IsReady}
 use Rattle.sync_store.specs.Runs.{RunsBy}
+use Rattle.sync_store.specs.Waiting.{frames_in, has_place}
+use Rattle.sync_store.proofs.Counting.{frames_none}
 use Rattle.sync_store.proofs.FitSteps.{true≢false}
 use Rattle.sync_store.proofs.GroupCounts.{adds_first, calls_of_group, few_groups, one_group, unless}
 use Rattle.sync_store.proofs.GroupSteps.{joined_len}
@@ -49,7 +48,9 @@ gathered_none clients s still none = record {
   end = omega (arith, ap length none);
   limit = refl;
   joined = subst (λ w. IsJoined [] w) (sym none) joined_none;
-  together = λ rest. ap (λ w. groups_for (written_in s) (group_len w) rest) (sym none);
+  together = λ rest.
+      ap (λ n. groups_for (written_in s) 0 n rest) (sym frames_none)
+      ∙ ap (λ w. groups_for (written_in s) (group_len w) (frames_in w) rest) (sym none);
   kinds = tt;
   within = tt;
 }
@@ -103,9 +104,9 @@ group_added clients before s new more o o' g same run just most appends adds =
     ) in
     let groups = unless (length s.waiting == 1) in
     let calls : flush_calls s.waiting ≡ 4 * groups = calls_of_group (length s.waiting == 1) in
-    let counted : groups ≡ groups_for (written_in before) 0 more =
+    let counted : groups ≡ groups_for (written_in before) 0 0 more =
     sym (one_group (length s.waiting) some) ∙ sym (g.together [])
-    ∙ ap (groups_for (written_in before) 0) (append-nil more) in
+    ∙ ap (groups_for (written_in before) 0 0) (append-nil more) in
     record {
       runs = record {
         goes_on = g.goes_on;
@@ -130,6 +131,16 @@ group_added clients before s new more o o' g same run just most appends adds =
       counted = counted;
     }
 
+-- where no more may wait, some wait
+full_waits : (ps : List (List ℕ)) (waiting : List ℕ) → IsJoined ps waiting
+    → has_place (group_len waiting) (frames_in waiting) ≡ false → 1 ≤ group_len waiting
+full_waits [] waiting joined full =
+    let place : has_place (group_len waiting) (frames_in waiting) ≡ true =
+    ap (λ w. has_place (group_len w) (frames_in w)) joined.spelled ∙ ap (has_place 0) frames_none in
+    let no : true ≡ false = sym place ∙ full in
+    absurd cc
+full_waits (p ∷ ps) waiting joined full = omega (arith, joined_len (p ∷ ps) waiting joined)
+
 -- ---- the work so far
 
 module _ (clients : Meaning) where
@@ -153,7 +164,7 @@ module _ (clients : Meaning) where
   pub underway_flushed : (before s new : StoreValue) (o o' : Outside) (waits : List (List Entry))
       → IsStore new → HasGathered clients before s waits → IsAdded clients before new o o' waits
       → new.closed ≡ false → NoneWaits new
-      → nat_le (group_len s.waiting + (MAX_FRAME + 5)) MAX_GROUP ≡ false
+      → has_place (group_len s.waiting) (frames_in s.waiting) ≡ false
       → IsUnderway clients before new o o' waits
   underway_flushed before s new o o' waits kept g added still none full = record {
     mid = new;
@@ -165,25 +176,29 @@ module _ (clients : Meaning) where
     gathered = gathered_none clients new still none;
     counted = λ more.
         let kind = written_in before in
+        let some = full_waits (payloads kind before.state.facts waits) s.waiting g.joined full in
         let one : added.runs.groups ≡ 1 =
-        added.counted ∙ ap (groups_for kind 0) (sym (append-nil waits)) ∙ g.together []
-        ∙ adds_first kind (group_len s.waiting) [] full in
-        let empty : groups_for kind (group_len new.waiting) more ≡ groups_for kind 0 more =
-        ap (λ w. groups_for kind (group_len w) more) none in
+        added.counted ∙ ap (groups_for kind 0 0) (sym (append-nil waits)) ∙ g.together []
+        ∙ adds_first kind (group_len s.waiting) (frames_in s.waiting) [] some full in
+        let empty : groups_for kind (group_len new.waiting) (frames_in new.waiting) more
+        ≡ groups_for kind 0 0 more =
+        ap (λ w. groups_for kind (group_len w) (frames_in w) more) none
+        ∙ ap (λ n. groups_for kind 0 n more) frames_none in
         omega (
           arith,
           g.together more,
-          adds_first kind (group_len s.waiting) more full,
+          adds_first kind (group_len s.waiting) (frames_in s.waiting) more some full,
           one,
           empty,
         );
   }
 
-  -- one piece behind the other
-  pub underway_then : (before s1 s2 : StoreValue) (o0 o1 o2 : Outside) (all : List (List Entry))
-      (u : IsUnderway clients before s1 o0 o1 all) → IsUnderway clients u.mid s2 o1 o2 u.rest
-      → IsUnderway clients before s2 o0 o2 all
-  underway_then before s1 s2 o0 o1 o2 all u v =
+  -- one piece behind the other, with further batches
+  pub underway_on : (before s1 s2 : StoreValue) (o0 o1 o2 : Outside) (all more : List (List Entry))
+      (u : IsUnderway clients before s1 o0 o1 all)
+      → IsUnderway clients u.mid s2 o1 o2 (u.rest ++ more)
+      → IsUnderway clients before s2 o0 o2 (all ++ more)
+  underway_on before s1 s2 o0 o1 o2 all more u v =
       let same : written_in u.mid ≡ written_in before = ap format_meant u.runs.format in
       let both = runs_both clients before u.mid v.mid o0 o1 o2 u.done v.done u.gathered.opened u.runs
       v.runs in
@@ -192,74 +207,52 @@ module _ (clients : Meaning) where
         kept = v.kept;
         done = u.done ++ v.done;
         rest = v.rest;
-        parts = append_assoc u.done v.done v.rest ∙ ap (λ l. u.done ++ l) v.parts ∙ u.parts;
+        parts = append_assoc u.done v.done v.rest ∙ ap (λ l. u.done ++ l) v.parts
+            ∙ sym (append_assoc u.done u.rest more) ∙ ap (λ l. l ++ more) u.parts;
         runs = both.0;
         gathered = v.gathered;
-        counted = λ more.
+        counted = λ rest.
             let kind = written_in before in
             let later =
-            subst (λ (k : Format). groups_for k 0 (u.rest ++ more)
-            ≡ v.runs.groups + groups_for k (group_len s2.waiting) more) same (v.counted more) in
+            subst (λ (k : Format). groups_for k 0 0 ((u.rest ++ more) ++ rest)
+            ≡ v.runs.groups + groups_for k (group_len s2.waiting) (frames_in s2.waiting) rest) same
+            (v.counted rest) in
             let here =
-            subst (λ (k : Format). groups_for k 0 (u.rest ++ more)
-            ≡ groups_for k (group_len s1.waiting) more) same (u.gathered.together more) in
-            omega (arith, u.counted more, later, here, both.1);
+            subst (λ (k : Format). groups_for k 0 0 (u.rest ++ (more ++ rest))
+            ≡ groups_for k (group_len s1.waiting) (frames_in s1.waiting) (more ++ rest)) same
+            (u.gathered.together (more ++ rest)) in
+            omega (
+              arith,
+              u.counted (more ++ rest),
+              later,
+              here,
+              both.1,
+              ap (groups_for kind 0 0) (append_assoc all more rest),
+              ap (groups_for kind 0 0) (append_assoc u.rest more rest),
+            );
       }
 
   -- and then all were added
-  pub underway_ends : (before s1 s2 : StoreValue) (o0 o1 o2 : Outside) (all : List (List Entry))
-      (u : IsUnderway clients before s1 o0 o1 all) → IsAdded clients u.mid s2 o1 o2 u.rest
-      → IsAdded clients before s2 o0 o2 all
-  underway_ends before s1 s2 o0 o1 o2 all u a =
+  pub underway_ends : (before s1 s2 : StoreValue) (o0 o1 o2 : Outside)
+      (all more : List (List Entry)) (u : IsUnderway clients before s1 o0 o1 all)
+      → IsAdded clients u.mid s2 o1 o2 (u.rest ++ more)
+      → IsAdded clients before s2 o0 o2 (all ++ more)
+  underway_ends before s1 s2 o0 o1 o2 all more u a =
       let same : written_in u.mid ≡ written_in before = ap format_meant u.runs.format in
       let kind = written_in before in
-      let later : a.runs.groups ≡ groups_for kind 0 u.rest =
-      a.counted ∙ ap (λ (k : Format). groups_for k 0 u.rest) same in
+      let later : a.runs.groups ≡ groups_for kind 0 0 (u.rest ++ more) =
+      a.counted ∙ ap (λ (k : Format). groups_for k 0 0 (u.rest ++ more)) same in
       let here =
-      subst (λ (k : Format). groups_for k 0 (u.rest ++ [])
-      ≡ groups_for k (group_len s1.waiting) []) same (u.gathered.together []) in
-      let both = runs_both clients before u.mid s2 o0 o1 o2 u.done u.rest u.gathered.opened u.runs
-      a.runs in
-      let count : both.0.groups ≡ groups_for kind 0 (u.done ++ u.rest) =
-      omega (
-        arith,
-        both.1,
-        later,
-        here,
-        ap (groups_for kind 0) (append-nil u.rest),
-        u.counted [],
-        ap (groups_for kind 0) (append-nil all ∙ sym u.parts),
-      ) in
-      subst (IsAdded clients before s2 o0 o2) u.parts (record { runs = both.0; counted = count })
-
-  -- a settling batch more waits
-  pub underway_more : (before s1 s2 : StoreValue) (o0 o1 : Outside) (all : List (List Entry))
-      (result : Result (Unit {0}) StoreFault) (u : IsUnderway clients before s1 o0 o1 all)
-      (steps : GathersSteps clients s1 s2 result)
-      → IsUnderway clients before s2 o0 o1 (all ++ steps.more)
-  underway_more before s1 s2 o0 o1 all result u steps =
-      let same : written_in s1 ≡ written_in before =
-      ap format_meant (u.gathered.format ∙ u.runs.format) in
-      record {
-        mid = u.mid;
-        kept = u.kept;
-        done = u.done;
-        rest = u.rest ++ steps.more;
-        parts = sym (append_assoc u.done u.rest steps.more) ∙ ap (λ l. l ++ steps.more) u.parts;
-        runs = u.runs;
-        gathered = steps.gathers u.mid u.rest u.gathered;
-        counted = λ more.
-            let kind = written_in before in
-            let joins =
-            subst (λ (k : Format). groups_for k (group_len s1.waiting) (steps.more ++ more)
-            ≡ groups_for k (group_len s2.waiting) more) same (steps.joins more) in
-            omega (
-              arith,
-              ap (groups_for kind 0) (append_assoc all steps.more more),
-              u.counted (steps.more ++ more),
-              joins,
-            );
-      }
+      subst (λ (k : Format). groups_for k 0 0 (u.rest ++ more)
+      ≡ groups_for k (group_len s1.waiting) (frames_in s1.waiting) more) same
+      (u.gathered.together more) in
+      let both = runs_both clients before u.mid s2 o0 o1 o2 u.done (u.rest ++ more)
+      u.gathered.opened u.runs a.runs in
+      let parts : u.done ++ (u.rest ++ more) ≡ all ++ more =
+      sym (append_assoc u.done u.rest more) ∙ ap (λ l. l ++ more) u.parts in
+      let count : both.0.groups ≡ groups_for kind 0 0 (u.done ++ (u.rest ++ more)) =
+      omega (arith, both.1, later, here, u.counted more, ap (groups_for kind 0 0) parts) in
+      subst (IsAdded clients before s2 o0 o2) parts (record { runs = both.0; counted = count })
 
   -- at the end of a run the disk fits the store
   pub runs_fits : (s new : StoreValue) (o o' : Outside) (more : List (List Entry))
@@ -328,29 +321,17 @@ flush_added clients before s new more result o o' ok err run calls g appends add
     group_added clients before s new more o o' g (keeps_flushed s new result ok err) run
     (just_by new (flush_calls s.waiting) result s o o' err calls) calls.most appends adds
 
-full_by : (n m : ℕ) → n ≡ m + 1 → nat_le (n + (MAX_FRAME + 5)) (MAX_GROUP + 1) ≡ false
-    → nat_le (m + (MAX_FRAME + 5)) MAX_GROUP ≡ false
-full_by n m is full = grind (arith, nat_tests)
-
 -- room was made
 pub room_made : (clients : Meaning) (before s new : StoreValue) (waits : List (List Entry))
     (result : Result (Unit {0}) StoreFault) (o o' : Outside) → IsStore new → s.closed ≡ false
     → OnOk result (new ≡ record s { waiting = 0 ∷ [] })
     → IfErr result (λ e. (e ≡ fault.DiskFault) × (new ≡ record s { closed = true }))
     → HasGathered clients before s waits → IsAdded clients before new o o' waits
-    → nat_le (length s.waiting + (MAX_FRAME + 5)) (MAX_GROUP + 1) ≡ false
+    → has_place (group_len s.waiting) (frames_in s.waiting) ≡ false
     → MakesRoom clients before new waits result o o'
 room_made clients before s new waits (Ok u) o o' store still ok err g added full =
-    let none : new.waiting ≡ 0 ∷ [] = ap (λ (v : StoreValue). v.waiting) ok in
-    let some : length s.waiting ≡ group_len s.waiting + 1 =
-    omega (
-      arith,
-      joined_len (payloads (written_in before) before.state.facts waits) s.waiting
-          g.joined,
-    ) in
     underway_flushed clients before s new o o' waits store g added
-    (ap (λ (v : StoreValue). v.closed) ok ∙ still) none (full_by (length s.waiting)
-    (group_len s.waiting) some full)
+    (ap (λ (v : StoreValue). v.closed) ok ∙ still) (ap (λ (v : StoreValue). v.waiting) ok) full
 room_made clients before s new waits (Err fault.DiskFault) o o' store still ok err g added full =
     (ap (λ (v : StoreValue). v.closed) err.1, added)
 room_made clients before s new waits (Err fault.Closed) o o' store still ok err g added full =
@@ -360,11 +341,14 @@ room_made clients before s new waits (Err fault.Full) o o' store still ok err g 
 room_made clients before s new waits (Err fault.Memory) o o' store still ok err g added full =
     let e : fault.Memory ≡ fault.DiskFault = err.0 in cc
 
+-- where none waits one batch may
+pub room_of_none : (s : StoreValue) → NoneWaits s → HasGroupRoom s
+room_of_none s none =
+    ap (λ w. has_place (group_len w) (frames_in w)) none ∙ ap (has_place 0) frames_none
+
 pub has_room_then : (s new : StoreValue) (result : Result (Unit {0}) StoreFault)
     → OnOk result (new ≡ record s { waiting = 0 ∷ [] }) → OnOk result (HasGroupRoom new)
-has_room_then s new (Ok u) ok =
-    let none : length new.waiting ≡ 1 = ap (λ (v : StoreValue). length v.waiting) ok in
-    omega (arith, none)
+has_room_then s new (Ok u) ok = room_of_none new (ap (λ (v : StoreValue). v.waiting) ok)
 has_room_then s new (Err e) ok = tt
 
 pub gathering_then : (clients : Meaning) (s new : StoreValue) (files : Option (Two File))
@@ -376,11 +360,3 @@ gathering_then clients s new files (Ok u) store still ok ready =
     gathering_none clients new files store
     (ready (ap (λ (v : StoreValue). v.closed) ok ∙ still))
 gathering_then clients s new files (Err e) store still ok ready = tt
-
-pub room_so : (n : ℕ) (b : Bool) → b ≡ nat_le (n + (MAX_FRAME + 5)) (MAX_GROUP + 1) → b ≡ true
-    → n + (MAX_FRAME + 5) ≤ MAX_GROUP + 1
-room_so n b is found = grind (arith, nat_tests)
-
--- where none waits the longest frame finds room
-pub room_of_none : (s : StoreValue) → NoneWaits s → HasGroupRoom s
-room_of_none s none = omega (arith, ap length none)

@@ -1,11 +1,12 @@
 -- Batches whose frames wait, and what adding them makes of files that fit a store.
-use Rattle.std.proofs.Common.{◌≡◌, ℕ, ◌+◌, ◌≤◌, Bool, true, false, cond, List, [], ◌∷◌}
+use Rattle.std.proofs.Common.{◌≡◌, ℕ, ◌+◌, ◌<◌, ◌≤◌, Bool, true, false, cond, List, [], ◌∷◌}
 use Rattle.std.proofs.Common.{◌++◌, length, Option, Some, refl, sym, ap, ◌∙◌, subst, inl, inr, arith}
 use Rattle.std.proofs.Common.{append_assoc, length-append}
 use Rattle.std.specs.List.{AllByRecursion, flat_map}
 use Rattle.std.specs.Option.{ForSome}
-use Rattle.std.specs.Prelude.{◌==◌}
+use Rattle.std.specs.Prelude.{◌==◌, ◌&&◌, nat_le, nat_lt}
 use Rattle.std.proofs.lemmas.Bool.{eqb-true}
+use Rattle.std.proofs.lemmas.Bool.Decides.{nat_tests}
 use Rattle.std.proofs.lemmas.List.Concat.{flat_map-append}
 use Rattle.outside.specs.Disk.{RelatesTold}
 use Rattle.outside.specs.Files.{Two, File, IsFileImage, file_of, read_files, settled}
@@ -46,6 +47,9 @@ use Rattle.sync_store.specs.Moments.{JournalMoment, groups_for}
 use Rattle.sync_store.proofs.FitSteps.{IsSame, bounded_now, first_of, framed_len, other_reads}
 use Rattle.sync_store.proofs.FitSteps.{rests}
 use Rattle.sync_store.proofs.FitSteps.{other_settled, second_of, stands_at, this_reads, true≢false}
+use Rattle.sync_store.specs.Waiting.{frames_in, has_place}
+use Rattle.sync_store.specs.declared.waiting.TheConstants.{MAX_WAITING}
+use Rattle.sync_store.proofs.Counting.{frames_more}
 use Rattle.sync_store.proofs.GroupCounts.{joins_those}
 use Rattle.sync_store.proofs.Headers.{one_format, one_generation, one_journal_file}
 use Rattle.sync_store.proofs.Steps.{all-append}
@@ -98,11 +102,29 @@ joins_group framed old new joins group = record {
   joined = joins group.payloads group.joined;
 }
 
--- where the longest frame finds room, each does
+-- where one batch more may wait, each frame finds room
+place_by : (n : ℕ) (a b : Bool) → a && b ≡ true → b ≡ nat_le (n + (MAX_FRAME + 5)) MAX_GROUP
+    → n + (MAX_FRAME + 5) ≤ MAX_GROUP
+place_by n true b both is = grind (arith, nat_tests)
+place_by n false b both is = absurd cc
+
+-- and fewer wait than may
+fewer_by : (n : ℕ) (a b : Bool) → a && b ≡ true → a ≡ nat_lt n MAX_WAITING → n < MAX_WAITING
+fewer_by n true b both is = grind (arith, nat_tests)
+fewer_by n false b both is = absurd cc
+
+pub fewer_wait : (waiting batches : ℕ) → has_place waiting batches ≡ true → batches < MAX_WAITING
+fewer_wait waiting batches place =
+    fewer_by batches (nat_lt batches MAX_WAITING) (nat_le (waiting + (MAX_FRAME + 5)) MAX_GROUP)
+    place refl
+
 pub frame_finds_room : (waiting framed : List ℕ) → IsFramed framed
-    → length waiting + (MAX_FRAME + 5) ≤ MAX_GROUP + 1
+    → has_place (group_len waiting) (frames_in waiting) ≡ true
     → length waiting + length framed ≤ MAX_GROUP + 1
-frame_finds_room waiting framed is_framed room =
+frame_finds_room waiting framed is_framed place =
+    let room =
+    place_by (group_len waiting) (nat_lt (frames_in waiting) MAX_WAITING)
+    (nat_le (group_len waiting + (MAX_FRAME + 5)) MAX_GROUP) place refl in
     omega (arith, framed_long framed is_framed, is_framed.fits.1, room)
 
 -- ---- a batch more waits
@@ -152,10 +174,13 @@ gathered_more clients before s new more batch framed g may gains joins long room
       together = λ rest.
           let longer : group_len s.waiting + (5 + payload_len kind batch) ≡ group_len new.waiting =
           omega (arith, framed_is, long, some) in
-          ap (groups_for kind 0) (append_assoc more (batch ∷ []) rest)
+          let more' = frames_more framed s.waiting new.waiting
+          (record { payloads = payloads kind f more; joined = g.joined }) joins in
+          ap (groups_for kind 0 0) (append_assoc more (batch ∷ []) rest)
           ∙ g.together (batch ∷ rest)
-          ∙ joins_those kind (group_len s.waiting) batch rest (omega (arith, room, some))
-          ∙ ap (λ n. groups_for kind n rest) longer;
+          ∙ joins_those kind (group_len s.waiting) (frames_in s.waiting) batch rest room
+          ∙ ap (λ n. groups_for kind n (frames_in s.waiting + 1) rest) longer
+          ∙ ap (λ n. groups_for kind (group_len new.waiting) n rest) (sym more');
       kinds = all_push (AllByRecursion (IsOfFormat kind)) more batch g.kinds kinds;
       within = all_push (AllByRecursion IsEntry) more batch g.within may.within;
     }
@@ -176,7 +201,8 @@ gathered_same clients before s new more g same limit = record {
   joined = subst (IsJoined (payloads (written_in before) before.state.facts more))
       (sym same.waiting) g.joined;
   together = λ rest. g.together rest
-      ∙ ap (λ w. groups_for (written_in before) (group_len w) rest) (sym same.waiting);
+      ∙ ap (λ w. groups_for (written_in before) (group_len w) (frames_in w) rest)
+      (sym same.waiting);
   kinds = g.kinds;
   within = g.within;
 }

@@ -35,7 +35,6 @@ use Rattle.sync_store.specs.Groups.{HasGathered, HasGroupRoom}
 use Rattle.sync_store.specs.Moments.{groups_for, journal_with}
 use Rattle.sync_store.specs.Ready.{IsReady}
 use Rattle.sync_store.proofs.FitSteps.{IsSame, fits_some_same, framed_len}
-use Rattle.sync_store.proofs.GroupCounts.{joins_those}
 use Rattle.sync_store.proofs.GroupSteps.{JoinsFrame, gathered_more, gathered_same, group_some}
 use Rattle.sync_store.proofs.GroupSteps.{joins_group}
 use Rattle.sync_store.proofs.FormatLaws.{room_framed, room_less, steps_few, steps_some}
@@ -266,18 +265,6 @@ filled_store laws clients s new facts es framed f came =
     (filled_gains clients s new facts es framed f came)
     (joins_group framed s.waiting new.waiting came.joins f.store.waits)
 
-filled_joins : (clients : Meaning) (s new : StoreValue) (facts : Facts) (es : List Entry)
-    (framed : List ℕ) → Filled clients s facts es framed → Came s new facts framed
-    → HasGroupRoom s → (rest : List (List Entry))
-    → groups_for (written_in s) (group_len s.waiting) (es ∷ rest)
-    ≡ groups_for (written_in s) (group_len new.waiting) rest
-filled_joins clients s new facts es framed f came room rest =
-    let some = group_some s.waiting f.store.waits in
-    let longer : group_len s.waiting + (5 + payload_len (written_in s) es) ≡ group_len new.waiting =
-    omega (arith, filled_len clients s facts es framed f, came.long, some) in
-    joins_those (written_in s) (group_len s.waiting) es rest (omega (arith, room, some))
-    ∙ ap (λ n. groups_for (written_in s) n rest) longer
-
 -- the batch was gathered, by an answer that suits it
 pub filled_steps : (clients : Meaning) (s new : StoreValue) (facts : Facts)
     (es : List Entry) (framed : List ℕ) (result : Result (Unit {0}) StoreFault)
@@ -296,7 +283,6 @@ filled_steps clients s new facts es framed result f came room so =
       end = omega (arith, came.end, filled_len clients s facts es framed f, f.long);
       gathers = λ before waits g.
           gathered_more clients before s new waits es framed g may gains came.joins came.long room;
-      joins = filled_joins clients s new facts es framed f came room;
       closed = came.closed;
       answer = so;
     }
@@ -331,7 +317,6 @@ starved_none clients s new e same limit still is = record {
   gathers = λ before waits g.
       subst (HasGathered clients before new) (sym (append-nil waits))
       (gathered_same clients before s new waits g same limit);
-  joins = λ rest. ap (λ w. groups_for (written_in s) (group_len w) rest) (sym same.waiting);
   closed = still;
   answer = subst (λ (x : StoreFault). GathersSo clients s new [] (Err x)) (sym is) tt;
 }

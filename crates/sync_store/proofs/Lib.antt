@@ -8,8 +8,10 @@ mod Framing
 mod FitSteps
 mod GroupSteps
 mod GroupAppends
+mod Counting
 mod GroupCounts
-mod Gathered
+pub mod Gathered
+pub mod Behind
 mod SettleLoop
 mod Steps
 mod SettleSteps

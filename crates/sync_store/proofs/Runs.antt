@@ -196,7 +196,7 @@ runs_settled clients s new result o o' has run = record {
   limit = has.comes.limit;
   run = run;
   leads = has.comes.leads;
-  groups = groups_for (written_in s) 0 has.more;
+  groups = groups_for (written_in s) 0 0 has.more;
   few = few_groups (written_in s) has.more;
   calls = has.comes.calls;
 }
@@ -343,5 +343,5 @@ pub settled_within : (clients : Meaning) (s s' : StoreValue) (result : Result (U
     (o o' : Outside) (has : HasSettled clients s s' result o o')
     → MakesAtMost (4 * length has.more) o o'
 settled_within clients s s' result o o' has =
-    most_more (4 * groups_for (written_in s) 0 has.more) (4 * length has.more) o o'
+    most_more (4 * groups_for (written_in s) 0 0 has.more) (4 * length has.more) o o'
     (omega (arith, few_groups (written_in s) has.more)) has.comes.calls.most

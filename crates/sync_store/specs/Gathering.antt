@@ -1,5 +1,5 @@
 -- How far a store has come with batches that it gathers, and adds to its journal in groups.
-use Rattle.std.specs.Prelude.{◌≡◌, ◌⊎◌, ◌+◌, ◌<◌, ◌≤◌, true, false, List, ◌++◌, length}
+use Rattle.std.specs.Prelude.{◌≡◌, ◌⊎◌, ◌+◌, ◌<◌, ◌≤◌, true, false, List, [], ◌∷◌, ◌++◌, length}
 use Rattle.std.specs.Prelude.{Result, Ok, Err}
 use Rattle.std.specs.List.{AllByRecursion}
 use Rattle.frame_journal.specs.Group.{group_len}
@@ -11,6 +11,8 @@ use Rattle.sync_rules.specs.Left.{left_of}
 use Rattle.sync_rules.specs.Legal.{AllSettling}
 use Rattle.sync_rules.specs.Steps.{IsSettled}
 use Rattle.sync_store.specs.Store.{IsStore, StoreValue, written_in}
+use Rattle.sync_store.specs.Waiting.{frames_in}
+use Rattle.sync_store.specs.Commits.{GainsBatch, needed}
 use Rattle.sync_store.specs.Groups.{HasGathered}
 use Rattle.sync_store.specs.Moments.{groups_for}
 use Rattle.sync_store.specs.Runs.{RunsBy}
@@ -41,22 +43,65 @@ pub record IsUnderway (clients : Meaning) (before s : StoreValue) (o o' : Outsid
   pub runs : RunsBy clients before mid o o' done
   pub gathered : HasGathered clients mid s rest
   -- as many groups were added as the frames take
-  pub counted : (more : List (List Entry)) → groups_for (written_in before) 0 (all ++ more)
-      ≡ runs.groups + groups_for (written_in before) (group_len s.waiting) more
+  pub counted : (more : List (List Entry)) → groups_for (written_in before) 0 0 (all ++ more)
+      ≡ runs.groups
+      + groups_for (written_in before) (group_len s.waiting) (frames_in s.waiting) more
 
 -- all of these batches were added, in as few groups as the frames take
 pub record IsAdded (clients : Meaning) (before s : StoreValue) (o o' : Outside)
     (all : List (List Entry)) : Type 0 where
   pub runs : RunsBy clients before s o o' all
-  pub counted : runs.groups ≡ groups_for (written_in before) 0 all
+  pub counted : runs.groups ≡ groups_for (written_in before) 0 0 all
 
--- what making room for the longest frame comes to, behind batches that wait
+-- what making room for one batch more comes to, behind batches that wait
 abbrev pub MakesRoom : Meaning → StoreValue → StoreValue → List (List Entry)
     → Result (Unit {0}) StoreFault → Outside → Outside → Type 0
 MakesRoom clients before s waits (Ok u) o o' = IsUnderway clients before s o o' waits
 MakesRoom clients before s waits (Err fault.DiskFault) o o' =
     (s.closed ≡ true) × IsAdded clients before s o o' waits
 MakesRoom clients before s waits (Err _) o o' = ⊥
+
+-- ---- batches that come behind those that wait
+
+-- Of a store of which batches may wait: these came behind those. Whatever it was before those that
+-- wait, it came from there by those and these, and each of them was added or waits.
+pub record GathersBehind (clients : Meaning) (s s' : StoreValue) (o o' : Outside)
+    (more : List (List Entry)) : Type 0 where
+  pub on : (before : StoreValue) → IsStore before → (waits : List (List Entry))
+      → HasGathered clients before s waits → IsUnderway clients before s' o o' (waits ++ more)
+
+-- the same where all of them were added, or were to be where the disk failed
+pub record AddsBehind (clients : Meaning) (s s' : StoreValue) (o o' : Outside)
+    (more : List (List Entry)) : Type 0 where
+  pub on : (before : StoreValue) → IsStore before → (waits : List (List Entry))
+      → HasGathered clients before s waits → IsAdded clients before s' o o' (waits ++ more)
+
+-- but for what waits and what memory it took, and whether it is closed, a store is as before
+pub record KeepsBatches (old new : StoreValue) : Type 0 where
+  pub facts : new.state.facts ≡ old.state.facts
+  pub answers : new.state.answers ≡ old.state.answers
+  pub file : new.file ≡ old.file
+  pub format : new.format ≡ old.format
+  pub generation : new.generation ≡ old.generation
+  pub end : new.end ≡ old.end
+  pub limit : new.limit ≡ old.limit
+
+-- Full comes exactly where the journal would pass the limit. After it and after Memory all is as
+-- before, but that those that waited may have been added; after DiskFault the store is closed.
+abbrev pub JoinsBehind : Meaning → StoreValue → StoreValue → List Entry
+    → Result (Unit {0}) StoreFault → Outside → Outside → Type 0
+JoinsBehind clients s s' batch (Ok _) o o' =
+    (needed s batch ≤ s.limit) × GainsBatch s s' batch
+    × GathersBehind clients s s' o o' (batch ∷ [])
+JoinsBehind clients s s' batch (Err fault.Full) o o' =
+    (s.limit < needed s batch) × KeepsBatches s s' × (s'.closed ≡ false)
+    × GathersBehind clients s s' o o' []
+JoinsBehind clients s s' batch (Err fault.Memory) o o' =
+    (needed s batch ≤ s.limit) × KeepsBatches s s' × (s'.closed ≡ false)
+    × GathersBehind clients s s' o o' []
+JoinsBehind clients s s' batch (Err fault.DiskFault) o o' =
+    KeepsBatches s s' × (s'.closed ≡ true) × AddsBehind clients s s' o o' []
+JoinsBehind clients s s' batch (Err fault.Closed) o o' = ⊥
 
 -- ---- one settling batch
 
@@ -83,25 +128,10 @@ pub record GathersSteps (clients : Meaning) (old new : StoreValue)
   pub end : new.end ≡ old.end + settling_len (written_in old) more
   pub gathers : (before : StoreValue) → (waits : List (List Entry))
       → HasGathered clients before old waits → HasGathered clients before new (waits ++ more)
-  -- it joined those that waited
-  pub joins : (rest : List (List Entry))
-      → groups_for (written_in old) (group_len old.waiting) (more ++ rest)
-      ≡ groups_for (written_in old) (group_len new.waiting) rest
   pub closed : new.closed ≡ false
   pub answer : GathersSo clients old new more result
 
 -- ---- settling behind batches that wait
-
--- what gathering all steps comes to, by the answer
-abbrev pub SettlesSoFar : Meaning → StoreValue → StoreValue → List (List Entry)
-    → Result (Unit {0}) StoreFault → Outside → Outside → Type 0
-SettlesSoFar clients before new all (Ok _) o o' =
-    (new.closed ≡ false) × IsUnderway clients before new o o' all × IsSettled clients new.state.facts
-SettlesSoFar clients before new all (Err fault.Memory) o o' =
-    (new.closed ≡ false) × IsUnderway clients before new o o' all
-SettlesSoFar clients before new all (Err fault.DiskFault) o o' =
-    (new.closed ≡ true) × IsAdded clients before new o o' all
-SettlesSoFar clients before new all (Err _) o o' = ⊥
 
 -- settling batches, and what the store is behind them
 pub record StepsOn (clients : Meaning) (old new : StoreValue)
@@ -111,12 +141,24 @@ pub record StepsOn (clients : Meaning) (old new : StoreValue)
   pub filled : AreFilled more
   pub end : new.closed ≡ false → new.end ≡ old.end + settling_len (written_in old) more
 
+-- what gathering all steps comes to, by the answer
+abbrev pub SettlesSoFar : Meaning → StoreValue → StoreValue → List (List Entry)
+    → Result (Unit {0}) StoreFault → Outside → Outside → Type 0
+SettlesSoFar clients old new more (Ok _) o o' =
+    (new.closed ≡ false) × GathersBehind clients old new o o' more
+    × IsSettled clients new.state.facts
+SettlesSoFar clients old new more (Err fault.Memory) o o' =
+    (new.closed ≡ false) × GathersBehind clients old new o o' more
+SettlesSoFar clients old new more (Err fault.DiskFault) o o' =
+    (new.closed ≡ true) × AddsBehind clients old new o o' more
+SettlesSoFar clients old new more (Err _) o o' = ⊥
+
 -- settling batches were gathered behind those that waited
-pub record SettlesOn (clients : Meaning) (before old new : StoreValue) (waits : List (List Entry))
+pub record SettlesBehind (clients : Meaning) (old new : StoreValue)
     (result : Result (Unit {0}) StoreFault) (o o' : Outside) : Type 0 where
   pub more : List (List Entry)
   pub steps : StepsOn clients old new more
-  pub answer : SettlesSoFar clients before new (waits ++ more) result o o'
+  pub answer : SettlesSoFar clients old new more result o o'
 
 -- settling batches were gathered behind those that waited, and all of them were added
 pub record SettlesOut (clients : Meaning) (before old new : StoreValue) (waits : List (List Entry))

@@ -1,9 +1,7 @@
 -- A store of which the frames of some batches wait, to be added to its journal together.
-use Rattle.std.specs.Prelude.{◌≡◌, ◌⊎◌, ◌+◌, ◌≤◌, false, List, ◌++◌, length, Option, Some}
+use Rattle.std.specs.Prelude.{◌≡◌, ◌⊎◌, ◌+◌, true, false, List, ◌++◌, Option, Some}
 use Rattle.std.specs.List.{AllByRecursion}
 use Rattle.frame_journal.specs.Group.{IsJoined, group_len}
-use Rattle.frame_journal.specs.declared.group.TheConstants.{MAX_GROUP}
-use Rattle.outside.specs.declared.limits.TheConstants.{MAX_FRAME}
 use Rattle.outside.specs.Files.{Two, File}
 use Rattle.outside.specs.Outside.{Outside}
 use Rattle.sync_rules.specs.declared.entries.Entry.{Entry}
@@ -14,6 +12,7 @@ use Rattle.entry_codec.specs.Payloads.{payloads}
 use Rattle.entry_codec.specs.Spelling.{IsEntry, IsOfFormat}
 use Rattle.journal_state.specs.Whole.{KnowsJudgements}
 use Rattle.sync_store.specs.Store.{IsStore, StoreValue, written_in}
+use Rattle.sync_store.specs.Waiting.{frames_in, has_place}
 use Rattle.sync_store.specs.Fitting.{FitsFiles, FitsSome}
 use Rattle.sync_store.specs.Moments.{LeadsTo, groups_for}
 
@@ -32,8 +31,8 @@ pub record HasGathered (clients : Meaning) (before s : StoreValue)
   pub limit : s.limit ≡ before.limit
   pub joined : IsJoined (payloads (written_in before) before.state.facts more) s.waiting
   -- each of them found room behind those before it
-  pub together : (rest : List (List Entry)) → groups_for (written_in before) 0 (more ++ rest)
-      ≡ groups_for (written_in before) (group_len s.waiting) rest
+  pub together : (rest : List (List Entry)) → groups_for (written_in before) 0 0 (more ++ rest)
+      ≡ groups_for (written_in before) (group_len s.waiting) (frames_in s.waiting) rest
   -- the entries are of kinds that the format has, and within their limits
   pub kinds : AllByRecursion (AllByRecursion (IsOfFormat (written_in before))) more
   pub within : AllByRecursion (AllByRecursion IsEntry) more
@@ -51,9 +50,9 @@ pub record IsGathering (clients : Meaning) (s : StoreValue)
   pub gathered : HasGathered clients before s more
   pub fits : FitsSome clients before files
 
--- the longest frame finds room behind those that wait
+-- one batch more may wait behind those that wait
 abbrev pub HasGroupRoom : StoreValue → Type 0
-HasGroupRoom s = length s.waiting + (MAX_FRAME + 5) ≤ MAX_GROUP + 1
+HasGroupRoom s = has_place (group_len s.waiting) (frames_in s.waiting) ≡ true
 
 -- this journal, or it with all of some further batches
 abbrev pub NoneOrAll : List (List Entry) → List (List Entry) → List (List Entry) → Type 0

@@ -1,5 +1,6 @@
 pub mod Faults
 pub mod Store
+pub mod Waiting
 pub mod Inside
 pub mod Fitting
 pub mod Ready

@@ -1,9 +1,7 @@
 -- What a run of a store's calls leaves at each moment, and at its end, in words of the whole
 -- journal that the files stand for.
-use Rattle.std.specs.Prelude.{◌≡◌, ◌⊎◌, ◌==◌, ℕ, suc, ◌+◌, nat_le, cond, false, List, [], ◌∷◌}
+use Rattle.std.specs.Prelude.{◌≡◌, ◌⊎◌, ◌==◌, ℕ, suc, ◌+◌, cond, false, List, [], ◌∷◌}
 use Rattle.std.specs.Prelude.{◌++◌, Some, Result, Ok, Err}
-use Rattle.frame_journal.specs.declared.group.TheConstants.{MAX_GROUP}
-use Rattle.outside.specs.declared.limits.TheConstants.{MAX_FRAME}
 use Rattle.outside.specs.Files.{Two, File}
 use Rattle.outside.specs.Links.{sent_of}
 use Rattle.outside.specs.Outside.{Outside, Moment, MomentsAre}
@@ -14,6 +12,7 @@ use Rattle.entry_codec.specs.Payloads.{payload_len}
 use Rattle.entry_codec.specs.Standing.{journal}
 use Rattle.file_standing.specs.Standing.{stands}
 use Rattle.sync_store.specs.Store.{StoreValue}
+use Rattle.sync_store.specs.Waiting.{has_place}
 use Rattle.sync_store.specs.Fitting.{FitsFiles}
 use Rattle.sync_store.specs.declared.fault.StoreFault.{StoreFault}
 
@@ -33,15 +32,14 @@ pub record LeadsTo (clients : Meaning) (P Q : List (List Entry) → Type 0) (s :
   pub ends : s.closed ≡ false → (two : Two File) → new.files ≡ Some two
       → (whole : List (List Entry)) × Q whole × FitsFiles clients s whole two
 
--- How many groups it takes to add batches in a format behind frames of so many bytes that wait: a
--- batch joins those that wait where the longest frame finds room behind them, and else these are
--- added before it.
-abbrev pub groups_for : Format → ℕ → List (List Entry) → ℕ
-groups_for format waiting [] = cond (waiting == 0) 0 1
-groups_for format waiting (b ∷ bs) =
-    cond (nat_le (waiting + (MAX_FRAME + 5)) MAX_GROUP)
-    (groups_for format (waiting + (5 + payload_len format b)) bs)
-    (suc (groups_for format (5 + payload_len format b) bs))
+-- How many groups it takes to add batches in a format behind so many bytes of so many batches that
+-- wait: a batch joins those that wait where one more may, and else these are added before it.
+abbrev pub groups_for : Format → ℕ → ℕ → List (List Entry) → ℕ
+groups_for format waiting batches [] = cond (waiting == 0) 0 1
+groups_for format waiting batches (b ∷ bs) =
+    cond (has_place waiting batches)
+    (groups_for format (waiting + (5 + payload_len format b)) (batches + 1) bs)
+    (suc (groups_for format (5 + payload_len format b) 1 bs))
 
 -- ---- one batch
 

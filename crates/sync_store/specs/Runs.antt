@@ -81,5 +81,5 @@ pub record HasExtended (clients : Meaning) (old new : StoreValue) (batch : List 
   pub more : List (List Entry)
   pub runs : RunsBy clients old new o o' more
   pub adds : AddsBatch clients old.state.facts batch more
-  pub counted : runs.groups ≡ groups_for (written_in old) 0 more
+  pub counted : runs.groups ≡ groups_for (written_in old) 0 0 more
   pub answer : ExtendsSo clients old new batch more result

@@ -62,7 +62,7 @@ pub record ComesBy (clients : Meaning) (old new : StoreValue) (o o' : Outside)
   pub leads : (two : Two File) → o.files ≡ Some two → (j : List (List Entry))
       → FitsFiles clients old j two
       → LeadsTo clients (IsBetween j more) (λ whole. whole ≡ j ++ more) new o o'
-  pub calls : CallsFor (groups_for (written_in old) 0 more) old new o o'
+  pub calls : CallsFor (groups_for (written_in old) 0 0 more) old new o o'
 
 -- A store that is not closed was settled, as far as the answer says.
 pub record HasSettled (clients : Meaning) (old new : StoreValue)

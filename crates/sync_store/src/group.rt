@@ -1,10 +1,8 @@
 //! Batches whose frames wait in the store, to be added to the journal together.
-ghost use Rattle.std.specs.Prelude.{◌≡◌, ◌+◌, ◌≤◌, ◌++◌, ◌∷◌, [], false, true, length, nat_le};
+ghost use Rattle.std.specs.Prelude.{◌≡◌, ◌++◌, ◌∷◌, [], false, true};
 ghost use Rattle.std.specs.Prelude.{List, IfErr, IsErrOf, OnOk};
-ghost use Rattle.frame_journal.specs.Group.{flush_calls};
-ghost use Rattle.frame_journal.specs.declared.group.TheConstants.{MAX_GROUP};
-ghost use Rattle.outside.specs.declared.limits.TheConstants.{MAX_FRAME};
-ghost use Rattle.outside.specs.Faults.{HasCause};
+ghost use Rattle.frame_journal.specs.Group.{flush_calls, group_len};
+ghost use Rattle.outside.specs.Faults.{CountRose, HasCause};
 ghost use Rattle.outside.specs.Outside.{DiskRun, MakesCalls};
 ghost use Rattle.journal_state.specs.Taking.{HasRoom};
 ghost use Rattle.journal_state.specs.Whole.{KnowsJudgements};
@@ -14,23 +12,57 @@ ghost use Rattle.sync_rules.specs.Legal.{Allowed};
 ghost use Rattle.session_core.specs.Known.{IsOfAll};
 ghost use Rattle.sync_store.specs.Appending.{AppendsFor};
 ghost use Rattle.sync_store.specs.Commits.{AnswersCommit, GainsBatch, MayAdd};
+ghost use Rattle.sync_store.specs.Gathering.{JoinsBehind};
 ghost use Rattle.sync_store.specs.Groups.{AddsAll, HasGathered, HasGroupRoom, IsGathering};
 ghost use Rattle.sync_store.specs.Ready.{IsReady};
 ghost use Rattle.sync_store.specs.Store.{IsStore, StoreValue};
+ghost use Rattle.sync_store.specs.Waiting.{frames_in, has_place};
 
 use crate::StoreFault;
-use crate::laws::cite_laws;
+use crate::laws::{cite_laws, images_stand};
 use crate::store::Store;
-use outside::{Disk, MAX_FRAME};
+use outside::Disk;
 use sync_ids::MessageId;
 use sync_rules::{Batch, Clients};
 
 impl Store {
-    // Whether the longest frame finds room behind those that wait.
+    // Whether one batch more may wait, whatever its length.
     pub(crate) fn has_group_room(&self) -> bool
-        ensures { result ≡ nat_le (length self.now.waiting + (MAX_FRAME + 5)) (MAX_GROUP + 1) }
+        ensures { result ≡ has_place (group_len self.now.waiting) (frames_in self.now.waiting) }
     {
-        self.waiting.has_room(MAX_FRAME as usize + 5)
+        self.waiting.has_place()
+    }
+
+    /// Takes a batch into the store as `commit_known` does, but its frame waits behind those of
+    /// other batches that wait, until `flush` adds them all. Where the longest frame might find no
+    /// room behind them they are added first, which is all that is asked of the disk. `Full` comes
+    /// exactly where the journal with all that waits, the frame and the room that settling may then
+    /// need pass the limit. After it and after `Memory` all is as before, but that those that waited
+    /// may have been added; after `DiskFault` the store is closed.
+    pub fn gather_known<D: Disk, C: Clients>(
+        &mut self,
+        disk: &mut D,
+        clients: &C,
+        batch: Batch,
+        id: Option<MessageId>,
+    ) -> Result<(), StoreFault>
+        requires gathering { IsGathering (C.meaning clients.now) self.old (D.tells disk.old).files }
+        requires allowed { Allowed (C.meaning clients.now) self.old.state.facts batch }
+        requires kind { is_settling_kind batch ≡ false }
+        requires plain { is_account_kind batch ≡ false }
+        requires named { IsOfAll id batch }
+        ensures joins { JoinsBehind (C.meaning clients.now) self.old self.new batch result
+            (D.tells disk.old) (D.tells disk.new) }
+        ensures gathering { self.new.closed ≡ false
+            → IsGathering (C.meaning clients.now) self.new (D.tells disk.new).files }
+        ensures run { DiskRun (D.tells disk.old) (D.tells disk.new) }
+        ensures numbers { IsStore self.new }
+        ensures fault { IsErrOf result StoreFault.DiskFault
+            → CountRose (D.tells disk.old).disk_faults (D.tells disk.new).disk_faults }
+    {
+        images_stand();
+        self.make_room(disk, clients)?;
+        self.gather(clients, batch, id)
     }
 
     // Takes a batch into the store as `commit_known` does, with no call on the disk: its frame waits
@@ -94,11 +126,11 @@ impl Store {
         self.state.take_known(batch, id);
     }
 
-    // Adds the batches whose frames wait to the journal, in four calls of the disk whatever their
-    // number, or in none where none waits. At each moment the files stand for the journal before
-    // them or for it with all of them; after `Ok` every crash leaves the latter, and none waits.
-    // After `DiskFault` the store is closed.
-    pub(crate) fn flush<D: Disk, C: Clients>(
+    /// Adds the batches whose frames wait to the journal, in four calls of the disk whatever their
+    /// number, or in none where none waits. At each moment the files stand for the journal before
+    /// them or for it with all of them; after `Ok` every crash leaves the latter, and none waits.
+    /// After `DiskFault` the store is closed.
+    pub fn flush<D: Disk, C: Clients>(
         &mut self,
         disk: &mut D,
         clients: &C,
@@ -125,7 +157,7 @@ impl Store {
     {
         let _meaning = clients;
         cite_laws();
-        match self.journal.flush(disk, &mut self.waiting) {
+        match self.waiting.flush(disk, &mut self.journal) {
             Ok(()) => Ok(()),
             Err(_) => {
                 self.closed = true;

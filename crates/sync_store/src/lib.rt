@@ -17,6 +17,7 @@ mod refusals;
 mod settling;
 mod store;
 mod view;
+pub mod waiting;
 
 pub use fault::{InitFault, LoadFault, PostFault, StoreFault};
 pub use store::Store;

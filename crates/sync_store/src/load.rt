@@ -19,8 +19,9 @@ use crate::LoadFault;
 use crate::formats::{HeldNames, format_meant, settling_room};
 use crate::laws::cite_laws;
 use crate::store::Store;
+use crate::waiting::Waiting;
 use entry_codec::read_batch;
-use frame_journal::{Group, Journal, barrier};
+use frame_journal::{Journal, barrier};
 use journal_state::State;
 use outside::{Disk, MAX_JOURNAL, Place};
 use std::alloc::Global;
@@ -167,7 +168,7 @@ impl Store {
         barrier(disk)?;
         let mut journal = Journal::start(disk)?;
         let mut state = State::new(alloc, hasher)?;
-        let waiting = Group::new(alloc)?;
+        let waiting = Waiting::new(alloc)?;
         read_all(alloc, disk, clients, &mut journal, &mut state)?;
         Ok(Store {
             alloc,

@@ -8,8 +8,8 @@ ghost use Rattle.sync_rules.specs.declared.entries.Entry.{Entry};
 ghost use Rattle.sync_rules.specs.Facts.{after_all};
 ghost use Rattle.sync_rules.specs.Legal.{IsSettling};
 ghost use Rattle.sync_rules.specs.Steps.{IsSettled};
-ghost use Rattle.sync_store.specs.Gathering.{GathersSteps, KeepsJournal, MakesRoom, SettlesOn};
-ghost use Rattle.sync_store.specs.Gathering.{SettlesOut};
+ghost use Rattle.sync_store.specs.Gathering.{GathersSteps, KeepsJournal, MakesRoom};
+ghost use Rattle.sync_store.specs.Gathering.{SettlesBehind, SettlesOut};
 ghost use Rattle.sync_store.specs.Groups.{HasGathered, HasGroupRoom, IsGathering};
 ghost use Rattle.sync_store.specs.Ready.{IsReady};
 ghost use Rattle.sync_store.specs.Store.{IsStore, StoreValue};
@@ -86,17 +86,17 @@ impl Store {
         settled
     }
 
-    // Gathers settling batches until no step is left, each filled while one is. Where a group has no
-    // room for the longest frame it is flushed first.
-    fn gather_settling<D: Disk, C: Clients>(
+    /// Gathers settling batches behind those that wait, until no step is left: each filled while one
+    /// is. Where the longest frame might find no room behind those that wait they are added first,
+    /// which is all that is asked of the disk. It never answers `Full` or `Closed`. After `Memory`
+    /// the steps made before it wait, and after `DiskFault` the store is closed.
+    pub fn gather_settling<D: Disk, C: Clients>(
         &mut self,
         disk: &mut D,
         clients: &C,
     ) -> Result<(), StoreFault>
         requires gathering { IsGathering (C.meaning clients.now) self.old (D.tells disk.old).files }
-        ensures settles { (before : StoreValue) → IsStore before → (waits : List (List Entry))
-            → HasGathered (C.meaning clients.now) before self.old waits
-            → SettlesOn (C.meaning clients.now) before self.old self.new waits result
+        ensures settles { SettlesBehind (C.meaning clients.now) self.old self.new result
             (D.tells disk.old) (D.tells disk.new) }
         ensures gathering { self.new.closed ≡ false
             → IsGathering (C.meaning clients.now) self.new (D.tells disk.new).files }
@@ -114,7 +114,7 @@ impl Store {
     }
 
     // Flushes the frames that wait where the longest would find no room behind them.
-    fn make_room<D: Disk, C: Clients>(
+    pub(crate) fn make_room<D: Disk, C: Clients>(
         &mut self,
         disk: &mut D,
         clients: &C,

@@ -17,7 +17,8 @@ ghost use Rattle.sync_rules.specs.declared.entries.Entry.TheVariants as entry;
 ghost use Rattle.sync_store.specs.Store.{written_in};
 
 use crate::formats::{format_meant, settling_room};
-use frame_journal::{Group, Journal};
+use crate::waiting::Waiting;
+use frame_journal::Journal;
 use journal_state::State;
 use message_graph::Graph;
 use retry_table::Retry;
@@ -34,7 +35,7 @@ pub struct Store {
     pub(crate) alloc: Global,
     pub(crate) state: State,
     pub(crate) journal: Journal,
-    pub(crate) waiting: Group,
+    pub(crate) waiting: Waiting,
     pub(crate) limit: u64,
     pub(crate) closed: bool,
 }

@@ -152,10 +152,17 @@ entry_full e n n' maybe h h' new x was stopped stops is same =
 all_long : (more : List (List Entry)) → length (batches_in (commit_acts more)) ≡ length more
 all_long more = ap length (batches_in_commits more)
 
-parts_long : (front others more : List (List Entry)) → more ≡ front ++ others → length (others ++ batches_in (commit_acts front)) ≡ length more
+parts_long : (front others more : List (List Entry)) → more ≡ front ++ others
+    → length (batches_in (commit_acts others) ++ batches_in (commit_acts front)) ≡ length more
 parts_long front others more parts =
     let long : length more ≡ length front + length others = ap length parts ∙ length-append front others in
-    omega (arith, long, all_long front, length-append others (batches_in (commit_acts front)))
+    omega (
+      arith,
+      long,
+      all_long front,
+      all_long others,
+      length-append (batches_in (commit_acts others)) (batches_in (commit_acts front)),
+    )
 
 adds_within : (batch : List Entry) (s s' : StoreValue) (o o' : Outside) (x : NodeFault) → ByFault (AddStops bundle_meaning batch s s' o o') x
     → BrokenBy (λ by. AddsWithin bundle_meaning by batch s o o') x
@@ -177,7 +184,8 @@ adds_within batch s s' o o' node_fault.DiskFault by = broken_by _ true node_faul
   more = by.more;
   adds = by.adds;
   calls =
-      most_more (4 * length (by.breaks.others ++ batches_in (commit_acts by.breaks.front)))
+      most_more
+      (4 * length (batches_in (commit_acts by.breaks.others) ++ batches_in (commit_acts by.breaks.front)))
       (4 * length by.more) o o'
       (omega (arith, parts_long by.breaks.front by.breaks.others by.more by.breaks.parts))
       by.breaks.did.calls;

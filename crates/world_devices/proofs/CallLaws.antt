@@ -14,7 +14,8 @@ use Rattle.record_grammar.specs.Stream.{items, parsed, records, records_of}
 use Rattle.sync_ids.specs.declared.records.Record.{Record}
 use Rattle.entry_codec.specs.Standing.{journal}
 use Rattle.file_standing.specs.Standing.{stands}
-use Rattle.sync_course.specs.Acts.{Act, batches_in, commit_acts, event_of, events_of}
+use Rattle.sync_course.specs.Acts.{Act, AreQuiet, Does, Fail, Send, batches_in, event_of, events_of}
+use Rattle.sync_course.specs.Events.{Break, Commit, Hear, Miss, Pass, Read}
 use Rattle.sync_course.specs.Story.{heard_at}
 use Rattle.sync_rules.specs.declared.entries.Session.{Session}
 use Rattle.sync_rules.specs.Lists.{In}
@@ -131,11 +132,23 @@ may_take n h links run session link r on inside =
           (subst (λ (b : List ℕ). In r (records b)) (run.unused link (omega (arith, past, run.linked))) inside))
     ]
 
--- committing brings nothing
-no_hear : (link : ℕ) (acts : List Act) (next : Journal) → event_bytes link (events_of (acts ++ commit_acts next)) ≡ event_bytes link (events_of acts)
-no_hear link [] [] = refl
-no_hear link [] (b ∷ next) = no_hear link [] next
-no_hear link (a ∷ acts) next = ap (λ (l : List ℕ). bytes_by link (event_of a) ++ l) (no_hear link acts next)
+-- quiet acts bring nothing
+quiet_none : (link : ℕ) (next : List Act) → AreQuiet next → event_bytes link (events_of next) ≡ []
+quiet_none link [] quiet = refl
+quiet_none link (Does (Commit b) ∷ next) quiet = quiet_none link next quiet.1
+quiet_none link (Does Pass ∷ next) quiet = quiet_none link next quiet.1
+quiet_none link (Does (Hear n reply) ∷ next) quiet = absurd quiet.0
+quiet_none link (Does (Miss n) ∷ next) quiet = absurd quiet.0
+quiet_none link (Does (Read n now) ∷ next) quiet = absurd quiet.0
+quiet_none link (Does (Break n) ∷ next) quiet = absurd quiet.0
+quiet_none link (Send n bytes ∷ next) quiet = absurd quiet.0
+quiet_none link (Fail n bytes count ∷ next) quiet = absurd quiet.0
+
+no_hear : (link : ℕ) (acts next : List Act) → AreQuiet next
+    → event_bytes link (events_of (acts ++ next)) ≡ event_bytes link (events_of acts)
+no_hear link [] next quiet = quiet_none link next quiet
+no_hear link (a ∷ acts) next quiet =
+    ap (λ (l : List ℕ). bytes_by link (event_of a) ++ l) (no_hear link acts next quiet)
 
 -- what a place has heard is the front of what is brought
 was_brought : FrontsHaveFronts → (n : NodeValue) (h h' : MemHostValue) (links : ℕ) → IsRunning n h links → (did : CallDid n (host_told h) (host_told h')) → (session link : ℕ) (r : Record) → session ≡ n.first + link
@@ -143,9 +156,9 @@ was_brought : FrontsHaveFronts → (n : NodeValue) (h h' : MemHostValue) (links 
 was_brought fronts n h h' links run did session link r on inside =
     let rest : List ℕ = planned_bytes (plans_of h'.scripts link) in
     let bytes : List ℕ = event_bytes link (events_of did.acts) in
-    let none : event_bytes link (events_of (did.acts ++ commit_acts did.next)) ≡ bytes = no_hear link did.acts did.next in
+    let none : event_bytes link (events_of (did.acts ++ did.next)) ≡ bytes = no_hear link did.acts did.next did.quiet in
     let has : heard_at did.to.at link ≡ heard_on (host_told h).links link ++ bytes =
-    place_adds n h links run (did.acts ++ commit_acts did.next) did.to link did.path
+    place_adds n h links run (did.acts ++ did.next) did.to link did.path
     ∙ ap (λ (l : List ℕ). heard_on (host_told h).links link ++ l) none in
     let whole : heard_at did.to.at link ++ rest ≡ brought_on h link =
     ap (λ (l : List ℕ). l ++ rest) has

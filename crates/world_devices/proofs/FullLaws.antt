@@ -1,6 +1,6 @@
 -- Where a batch has no room: each link that has not failed by then has sent all output of its session.
 use Rattle.std.specs.Prelude.{◌≢◌}
-use Rattle.std.proofs.lemmas.Bool.{cases_Bool}
+use Rattle.std.proofs.lemmas.Bool.{cases_Bool, false≢true}
 use Rattle.std.proofs.Common.{◌≡◌, ℕ, zero, suc, ◌+◌, false, List, [], ◌∷◌, ◌++◌, refl, sym}
 use Rattle.std.proofs.Common.{ap, ◌∙◌, subst, inl, inr, append_assoc, Option, Some}
 use Rattle.std.specs.Prelude.{slice_get}
@@ -15,8 +15,8 @@ use Rattle.sync_rules.specs.Facts.{Journal, facts}
 use Rattle.sync_rules.specs.Output.{sent}
 use Rattle.sync_store.specs.Fitting.{FitsFiles}
 use Rattle.sync_store.specs.Store.{StoreValue}
-use Rattle.sync_course.specs.Acts.{Act, Does, batches_in, events_of, sends_on}
-use Rattle.sync_course.specs.Events.{Commit, Event, has_failure}
+use Rattle.sync_course.specs.Acts.{Act, batches_in, events_of, sends_on}
+use Rattle.sync_course.specs.Events.{AreQuietEvents, Break, Commit, Event, Hear, IsQuietEvent, Miss, Pass, Read, has_failure, is_failure}
 use Rattle.sync_course.specs.Free.{Free, FreeStep, forget, owing_free}
 use Rattle.sync_course.specs.Links as course_links
 use Rattle.sync_course.specs.Owing.{Owing, paid}
@@ -24,9 +24,9 @@ use Rattle.sync_course.specs.Paths.{Path}
 use Rattle.sync_course.specs.Story.{AllIsSent, FreeActs, LinkFailed}
 use Rattle.sync_course.specs.Turns.{Attaches, Between, Place, RunStep, Terms}
 use Rattle.sync_course.specs.declared.ends.LinkEnd.TheVariants as link_end
-use Rattle.sync_course.proofs.ActLaws.{batches_in-append, sends_on-append}
+use Rattle.sync_course.proofs.ActLaws.{batches_in-append, quiet_events, sends_on-append}
 use Rattle.sync_course.proofs.FailLaws.{HoldsOpen, free_fails}
-use Rattle.sync_course.proofs.FreeLaws.{run_acts_are_free, step_is_free}
+use Rattle.sync_course.proofs.FreeLaws.{run_acts_are_free}
 use Rattle.sync_course.proofs.SendLaws.{all_sent, events_path}
 use Rattle.sync_node.specs.Courses.{links_from, place_at}
 use Rattle.sync_node.specs.Fulls.{RunFull}
@@ -66,17 +66,35 @@ stays_open : (first : ℕ) (p q : Free) (es : List Event) → Path (FreeStep bun
 stays_open first p q [] path opens = subst (λ (x : Free). HoldsOpen x.hold x.links) (sym path) opens
 stays_open first p q (e ∷ es) path opens = stays_open first path.0 q es path.2 (free_fails bundle_meaning first p path.0 e path.1 opens).opens
 
--- a batch fails no link
-module _ (terms : Terms) (p q : Place) (batch : List Entry) (step : RunStep bundle_meaning terms p (Commit batch) q) (opens : HoldsOpen (forget p).hold (forget p).links) where
-  failed_on : (i : ℕ) → LinkFailed p.links i → LinkFailed q.links i
-  failed_on i failed = (free_fails bundle_meaning terms.first (forget p) (forget q) (Commit batch) (step_is_free bundle_meaning terms p q (Commit batch) step) opens).by.stays i failed
+-- quiet events fail no link
+failed_on : (first : ℕ) (es : List Event) (p q : Free) → AreQuietEvents es
+    → Path (FreeStep bundle_meaning first) p es q → HoldsOpen p.hold p.links → (i : ℕ)
+    → LinkFailed p.links i → LinkFailed q.links i
+failed_on first [] p q quiet path opens i failed =
+    subst (λ (x : Free). LinkFailed x.links i) (sym path) failed
+failed_on first (e ∷ es) p q quiet path opens i failed =
+    let one = free_fails bundle_meaning first p path.0 e path.1 opens in
+    failed_on first es path.0 q quiet.1 path.2 one.opens i (one.by.stays i failed)
 
-  failed_before : (i : ℕ) → LinkFailed q.links i → LinkFailed p.links i
-  failed_before i failed =
-      elim ((free_fails bundle_meaning terms.first (forget p) (forget q) (Commit batch) (step_is_free bundle_meaning terms p q (Commit batch) step) opens).by.cause i failed) [
-        | inl was ↦ was
-        | inr is ↦ cc
-      ]
+no_failure : (i : ℕ) (e : Event) → IsQuietEvent e → is_failure i e ≡ false
+no_failure i (Commit b) quiet = refl
+no_failure i Pass quiet = refl
+no_failure i (Hear link reply) quiet = absurd quiet
+no_failure i (Miss link) quiet = absurd quiet
+no_failure i (Read link now) quiet = absurd quiet
+no_failure i (Break link) quiet = absurd quiet
+
+failed_before : (first : ℕ) (es : List Event) (p q : Free) → AreQuietEvents es
+    → Path (FreeStep bundle_meaning first) p es q → HoldsOpen p.hold p.links → (i : ℕ)
+    → LinkFailed q.links i → LinkFailed p.links i
+failed_before first [] p q quiet path opens i failed =
+    subst (λ (x : Free). LinkFailed x.links i) path failed
+failed_before first (e ∷ es) p q quiet path opens i failed =
+    let one = free_fails bundle_meaning first p path.0 e path.1 opens in
+    elim (one.by.cause i (failed_before first es path.0 q quiet.1 path.2 one.opens i failed)) [
+      | inl was ↦ was
+      | inr is ↦ absurd (false≢true (sym (no_failure i e quiet.0) ∙ is))
+    ]
 
 -- the links of a node that failed are those that stand Failed there
 module _ (terms : Terms) (p : Place) (links : List Link) (heard : ℕ → List ℕ) (s s' : StoreValue) (o o' : Outside) (stops : StopsAt terms p (links_from 0 links heard) s s' o o')
@@ -87,23 +105,29 @@ module _ (terms : Terms) (p : Place) (links : List Link) (heard : ℕ → List �
       (events_path bundle_meaning terms.first (paid (forget p)) (owing_free stops.to) stops.went.acts (run_acts_are_free bundle_meaning terms (paid p) stops.to stops.went.acts stops.went.path))
       opens
 
+  -- the quiet acts behind which the links stand as those of the node
+  soon_path : Path (FreeStep bundle_meaning terms.first) (forget stops.to.at)
+      (events_of stops.stands.acts) (forget stops.stands.next.at)
+  soon_path =
+      events_path bundle_meaning terms.first (owing_free stops.to) (owing_free stops.stands.next)
+      stops.stands.acts
+      (run_acts_are_free bundle_meaning terms stops.to stops.stands.next stops.stands.acts
+      stops.stands.path)
+
+  soon_quiet : AreQuietEvents (events_of stops.stands.acts)
+  soon_quiet = quiet_events stops.stands.acts stops.stands.quiet
+
   fails_then : (i : ℕ) → LinkFailed stops.to.at.links i → LinkFailed (links_from 0 links heard) i
   fails_then i failed =
-      elim stops.stands [
-        | inl same ↦ subst (λ (ls : List course_links.Link). LinkFailed ls i) same failed
-        | inr soon ↦
-            subst (λ (ls : List course_links.Link). LinkFailed ls i) soon.has
-            (failed_on terms stops.to.at soon.next.at soon.batch soon.steps.1 opens_there i failed)
-      ]
+      subst (λ (ls : List course_links.Link). LinkFailed ls i) stops.stands.has
+      (failed_on terms.first (events_of stops.stands.acts) (forget stops.to.at)
+      (forget stops.stands.next.at) soon_quiet soon_path opens_there i failed)
 
   failed_there : (i : ℕ) → LinkFailed (links_from 0 links heard) i → LinkFailed stops.to.at.links i
   failed_there i failed =
-      elim stops.stands [
-        | inl same ↦ subst (λ (ls : List course_links.Link). LinkFailed ls i) (sym same) failed
-        | inr soon ↦
-            failed_before terms stops.to.at soon.next.at soon.batch soon.steps.1 opens_there i
-            (subst (λ (ls : List course_links.Link). LinkFailed ls i) (sym soon.has) failed)
-      ]
+      failed_before terms.first (events_of stops.stands.acts) (forget stops.to.at)
+      (forget stops.stands.next.at) soon_quiet soon_path opens_there i
+      (subst (λ (ls : List course_links.Link). LinkFailed ls i) (sym stops.stands.has) failed)
 
 failed_from : (k i : ℕ) (links : List Link) (heard : ℕ → List ℕ) (l : Link) → slice_get links i ≡ Some l → l.end ≡ link_end.Failed → LinkFailed (links_from k links heard) i
 failed_from k i [] heard l at failed = cc
@@ -129,13 +153,11 @@ module _ (laws : DeviceLaws) (n : NodeValue) (links' : List Link) (s' : StoreVal
       whole_path n (host_told h) run stops.went.acts (owing_free stops.to)
       (free_path n (host_told h) p is stops.to stops.went.acts stops.went.path)
 
-  -- an event is to come next, so that nothing is owed
+  -- nothing is owed
   sent_whole : AllIsSent run.begin all_acts
   sent_whole =
-      let one = run_acts_are_free bundle_meaning (node_terms n) stops.to stops.next
-      (Does (Commit stops.batch) ∷ []) (stops.next, stops.steps, refl) in
       all_sent laws.go_on laws.join bundle_meaning run.begin all_acts (owing_free stops.to)
-      run.legal free_acts one.1.0
+      run.legal free_acts stops.clear
 
   link_sent : (i : ℕ) → has_failure i (events_of all_acts) ≡ false → (whole : Journal)
       → FitsFiles bundle_meaning s' whole (files_of (disk_files h'.disk))

@@ -29,7 +29,7 @@ use Rattle.sync_rules.specs.Growth.{output_in}
 use Rattle.sync_store.specs.Fitting.{FitsFiles}
 use Rattle.sync_store.specs.Runs.{AddsBatch}
 use Rattle.sync_store.specs.Store.{StoreValue}
-use Rattle.sync_course.specs.Acts.{Act, AtFront, Does, batches_in, commit_acts, events_of, sends_on}
+use Rattle.sync_course.specs.Acts.{Act, AreQuiet, AtFront, Does, batches_in, commit_acts, events_of, sends_on}
 use Rattle.sync_course.specs.Events.{Commit, TellsEvents, has_failure, heard_after}
 use Rattle.sync_course.specs.Free.{Free, FreeStep, Rests, first_free, forget, owing_free}
 use Rattle.sync_course.specs.Links as course_links
@@ -38,7 +38,7 @@ use Rattle.sync_course.specs.Paths.{Path}
 use Rattle.sync_course.specs.Story.{AllSuitNode, FreeActs, LinkFailed, begun_by, heard_at}
 use Rattle.sync_course.specs.Suits.{heard_in}
 use Rattle.sync_course.specs.Turns.{Attaches, Between, Place, Terms}
-use Rattle.sync_course.proofs.ActLaws.{batches_in-append, commit_acts-append, sends_on-append}
+use Rattle.sync_course.proofs.ActLaws.{batches_in-append, commit_acts-append, commits_are_quiet, sends_on-append}
 use Rattle.sync_course.specs.declared.ends.LinkEnd.TheVariants as link_end
 use Rattle.sync_course.proofs.FailLaws.{FailsJust, path_fails}
 use Rattle.sync_course.proofs.FreeLaws.{run_acts_are_free}
@@ -122,14 +122,15 @@ NodeSteps first = ActStep (λ (p : Free). p.facts) first (FreeStep bundle_meanin
 abbrev pub NodePath : NodeValue → Outside → List Act → Owing Free → Type 0
 NodePath n o acts to = Path (NodeSteps n.first) (paid (node_place n o)) acts to
 
--- these acts, from where the node stood; and these batches were to be committed next
+-- these acts, from where the node stood; and behind them some batches were to be committed next
 pub record CallDid (n : NodeValue) (o o' : Outside) : Type 0 where
   pub acts : List Act
-  pub next : Journal
+  pub next : List Act
+  pub quiet : AreQuiet next
   pub to : Owing Free
-  pub path : NodePath n o (acts ++ commit_acts next) to
+  pub path : NodePath n o (acts ++ next) to
   pub tells : TellsEvents (events_of acts) o o'
-  pub moments : ComesAtFronts bundle_meaning (acts ++ commit_acts next) n.store o o'
+  pub moments : ComesAtFronts bundle_meaning (acts ++ next) n.store o o'
 
 -- they led to where the node stands then
 pub record CallEnds (n n' : NodeValue) (o o' : Outside) : Type 0 where
@@ -145,6 +146,7 @@ did_to n s' o o' acts to path did =
     record {
       acts = acts;
       next = [];
+      quiet = tt;
       to = to;
       path = subst (λ (l : List Act). NodePath n o l to) all path;
       tells = did.tells;
@@ -236,7 +238,7 @@ module _ (laws : DeviceLaws) (n : NodeValue) (o o' : Outside) (told : TellsAll o
   so_far = run.begin ++ batches_in run.acts
 
   abbrev now_done : List Act
-  now_done = did.acts ++ commit_acts did.next
+  now_done = did.acts ++ did.next
 
   abbrev plans : List Session
   plans = begun_by (batches_in (run.acts ++ now_done))
@@ -442,11 +444,12 @@ module _ (n : NodeValue) (o : Outside) (p : Place) (is : forget p ≡ node_place
   stopped_did s' o' node_fault.DiskFault broken = let stops = broken.1 in record {
     acts = stops.acts;
     next = stops.next;
+    quiet = stops.quiet;
     to = owing_free stops.beyond;
     path =
-        free_path stops.beyond (stops.acts ++ commit_acts stops.next)
+        free_path stops.beyond (stops.acts ++ stops.next)
         (path_then (RunActs bundle_meaning (node_terms n)) (paid p) stops.to stops.beyond
-        stops.acts (commit_acts stops.next) stops.path stops.goes_on);
+        stops.acts stops.next stops.path stops.goes_on);
     tells = stops.did.tells;
     moments = stops.did.moments;
   }
@@ -490,7 +493,7 @@ module _ (first : ℕ) (links : List course_links.Link) where
       → NodeSteps first (paid (resting links f)) (Does (Commit b))
       (paid (resting links (after_all f b)))
   silent_step f b may none =
-      (λ link. refl, inl (may, refl), λ link. sym (ap spelled (none (first + link))))
+      (tt, inl (may, refl), λ link. sym (ap spelled (none (first + link))))
 
   settling_path : (f : Facts) (bs : Journal) → AllSettling bundle_meaning f bs
       → Path (NodeSteps first) (paid (resting links f)) (commit_acts bs)
@@ -634,7 +637,8 @@ module _ (n n' : NodeValue) (h h' : MemHostValue) (links : ℕ) (run : IsRunning
         ap commit_acts broken.parts ∙ commit_acts-append broken.front broken.others in
         record {
           acts = commit_acts broken.front;
-          next = broken.others;
+          next = commit_acts broken.others;
+          quiet = commits_are_quiet broken.others;
           to = to;
           path = subst (λ (acts : List Act). NodePath n from acts to) parts
               (so_added did.more did.adds);

@@ -12,18 +12,18 @@ recv-requires-clause-link g c = c.requires.able.able.dialled
 pub recv-requires-clause-room : goal.recv-requires-clause-room
 recv-requires-clause-room g c = omega (arith, c.requires.whole)
 
-pub take_piece-requires-clause-able : goal.take_piece-requires-clause-able
-take_piece-requires-clause-able g c =
+pub take_group-requires-clause-able : goal.take_group-requires-clause-able
+take_group-requires-clause-able g c =
     able_calm _ _ _ _ _ _ _ c.recv.ensures.call c.recv.ensures.links.same_dialled c.requires.able.able
 
-pub take_piece-requires-clause-asked : goal.take_piece-requires-clause-asked
-take_piece-requires-clause-asked g c = c.requires.asked
+pub take_group-requires-clause-asked : goal.take_group-requires-clause-asked
+take_group-requires-clause-asked g c = c.requires.asked
 
 pub end-requires : goal.end-requires
 end-requires g c = (c.requires.able.waits c.requires.asked).rest
 
-pub returns-in_ok-take_piece-in-Got-clause-waits : goal.returns-in_ok-take_piece-in-Got-clause-waits
-returns-in_ok-take_piece-in-Got-clause-waits g c = c.in_ok-take_piece-in-Got.ensures.waits
+pub returns-in_ok-take_group-in-Got-clause-waits : goal.returns-in_ok-take_group-in-Got-clause-waits
+returns-in_ok-take_group-in-Got-clause-waits g c = c.in_ok-take_group-in-Got.ensures.waits
 
 pub returns-in-Idle-clause-waits : goal.returns-in-Idle-clause-waits
 returns-in-Idle-clause-waits g c = c.requires.able.waits
@@ -35,27 +35,27 @@ returns-in-End-clause-waits g c =
 pub returns-in-Failed-clause-waits : goal.returns-in-Failed-clause-waits
 returns-in-Failed-clause-waits g c = λ going. cc
 
-pub returns-in_err-take_piece-in-Got-clause-work : goal.returns-in_err-take_piece-in-Got-clause-work
-returns-in_err-take_piece-in-Got-clause-work g c =
-    works_was _ c.in_err-take_piece-in-Got.field-0.0 c.from_residual.ensures.1
+pub returns-in_err-take_group-in-Got-clause-work : goal.returns-in_err-take_group-in-Got-clause-work
+returns-in_err-take_group-in-Got-clause-work g c =
+    works_was _ c.in_err-take_group-in-Got.field-0.0 c.from_residual.ensures.1
     (hear_stops _ _ _ _ _ _ c.recv.new.buf (c.recv.auto.buf ∙ c.requires.whole) c.requires.asked c.in-Got.ensures.call
     c.cite_laws.ensures.widen c.in-Got.count c.in-Got.ensures.links c.in-Got.ensures.answer
-    (rw c.new-piece.ensures at c.in_err-take_piece-in-Got.ensures.work.stopped))
+    (rw c.new-piece.ensures at c.in_err-take_group-in-Got.ensures.work.stopped))
     (work_then (work_link (link_kept (goes_heard _ _ _ _ _ c.recv.ensures.call c.recv.ensures.links)
     refl refl) c.recv.ensures.call.same_files c.requires.able.able)
-    c.in_err-take_piece-in-Got.ensures.work.keeps)
+    c.in_err-take_group-in-Got.ensures.work.keeps)
 
-pub returns-in_ok-take_piece-in-Got-clause-work : goal.returns-in_ok-take_piece-in-Got-clause-work
-returns-in_ok-take_piece-in-Got-clause-work g c = record {
+pub returns-in_ok-take_group-in-Got-clause-work : goal.returns-in_ok-take_group-in-Got-clause-work
+returns-in_ok-take_group-in-Got-clause-work g c = record {
   went =
       hear_piece _ _ _ _ _ _ c.recv.new.buf (c.recv.auto.buf ∙ c.requires.whole) c.requires.asked c.in-Got.ensures.call
       c.cite_laws.ensures.widen c.in-Got.count c.in-Got.ensures.links c.in-Got.ensures.answer
-      (rw c.new-piece.ensures at c.in_ok-take_piece-in-Got.ensures.work.went);
+      (rw c.new-piece.ensures at c.in_ok-take_group-in-Got.ensures.work.went);
   stopped = tt;
   keeps =
       work_then (work_link (link_kept (goes_heard _ _ _ _ _ c.recv.ensures.call
       c.recv.ensures.links) refl refl) c.recv.ensures.call.same_files c.requires.able.able)
-      c.in_ok-take_piece-in-Got.ensures.work.keeps;
+      c.in_ok-take_group-in-Got.ensures.work.keeps;
 }
 
 pub returns-in-Idle-clause-work : goal.returns-in-Idle-clause-work

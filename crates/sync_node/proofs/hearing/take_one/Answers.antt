@@ -3,61 +3,61 @@ use Rattle.std.proofs.lemmas.Result.{IfErr-weaker, on_ok_weaker}
 use Rattle.sync_rules.specs.Allows.{is_account_kind, is_settling_kind}
 use Rattle.sync_node.specs.declared.fault.Fault.TheVariants as fault
 use Rattle.sync_node.specs.OnLinks.{RecordWorks}
-use Rattle.sync_node.proofs.KeepLaws.{commit_left, keeps_left, settle_goes, settle_keeps}
+use Rattle.sync_node.proofs.KeepLaws.{gathers_left, join_left, settle_goes, settle_keeps}
 use Rattle.sync_node.proofs.KeepLaws.{take_keeps, was}
-use Rattle.sync_node.proofs.LinkActs.{record_no_memory, record_stops_at_commit}
-use Rattle.sync_node.proofs.LinkActs.{record_stops_at_settle, record_taken}
+use Rattle.sync_node.proofs.LinkActs.{record_halts_at_join, record_halts_at_settle}
+use Rattle.sync_node.proofs.LinkActs.{record_no_memory, record_taken}
 use Rattle.sync_node.proofs.SafeLaws.{goes_none}
 use Rattle.sync_node.proofs.TakeLaws.{takes_next}
 use Rattle.sync_node.proofs.WorkLaws.{goes_then}
 use Rattle.sync_node.proofs.hearing.take_one.Goals as goal
 
-pub commit-requires-clause-ready : goal.commit-requires-clause-ready
-commit-requires-clause-ready g c = c.requires.able.ready
+pub join-requires-clause-waits : goal.join-requires-clause-waits
+join-requires-clause-waits g c = c.requires.able.waits
 
-pub commit-requires-clause-allowed : goal.commit-requires-clause-allowed
-commit-requires-clause-allowed g c =
+pub join-requires-clause-allowed : goal.join-requires-clause-allowed
+join-requires-clause-allowed g c =
     (takes_next c.requires.able c.records_are_within.ensures c.state.ensures c.takes-taken.ensures
     c.in_ok-known.ensures.batch).allowed
 
-pub commit-requires-clause-kind : goal.commit-requires-clause-kind
-commit-requires-clause-kind g c = ap is_settling_kind c.in_ok-known.ensures.batch
+pub join-requires-clause-kind : goal.join-requires-clause-kind
+join-requires-clause-kind g c = ap is_settling_kind c.in_ok-known.ensures.batch
 
-pub commit-requires-clause-plain : goal.commit-requires-clause-plain
-commit-requires-clause-plain g c = ap is_account_kind c.in_ok-known.ensures.batch
+pub join-requires-clause-plain : goal.join-requires-clause-plain
+join-requires-clause-plain g c = ap is_account_kind c.in_ok-known.ensures.batch
 
 pub settle-requires : goal.settle-requires
-settle-requires g c = record { ready = c.in_ok-commit.ensures.went.ready }
+settle-requires g c = record { waits = c.in_ok-join.ensures.went.waits }
 
-pub commit-requires-clause-named : goal.commit-requires-clause-named
-commit-requires-clause-named g c = c.in_ok-known.ensures.named
+pub join-requires-clause-named : goal.join-requires-clause-named
+join-requires-clause-named g c = c.in_ok-known.ensures.named
 
 pub returns-in_err-known : goal.returns-in_err-known
 returns-in_err-known g c =
     was _ fault.Memory (RecordWorks _ _ _ _ _ _ _) c.from_residual.ensures.1 (record {
       went = tt;
-      stopped =
+      halted =
           record_no_memory
           (takes_next c.requires.able c.records_are_within.ensures refl refl refl)
-          c.requires.able.ready;
+          c.cite_laws.ensures.images c.requires.able.waits;
       goes = goes_none _;
       keeps =
-          record { same_limit = refl; same_format = refl; answered = c.requires.able.ready };
+          record { same_limit = refl; same_format = refl; answered = c.requires.able.waits };
     })
 
-pub returns-in_err-commit : goal.returns-in_err-commit
-returns-in_err-commit g c =
-    let e = c.in_err-commit.field-0.0 in
-    let left = commit_left _ c.in_ok-known.known.0 _ _ _ _ e c.in_err-commit.ensures.stopped in
-    was _ e (RecordWorks _ _ _ _ _ _ _) c.from_residual-in_err-commit.ensures.1 (record {
+pub returns-in_err-join : goal.returns-in_err-join
+returns-in_err-join g c =
+    let e = c.in_err-join.field-0.0 in
+    let left = join_left _ c.in_ok-known.known.0 _ _ _ _ e c.in_err-join.ensures.halted in
+    was _ e (RecordWorks _ _ _ _ _ _ _) c.from_residual-in_err-join.ensures.1 (record {
       went = tt;
-      stopped =
-          record_stops_at_commit
+      halted =
+          record_halts_at_join
           (takes_next c.requires.able c.records_are_within.ensures c.state.ensures
           c.takes-taken.ensures c.in_ok-known.ensures.batch)
-          e c.in_err-commit.ensures.stopped;
+          e c.in_err-join.ensures.halted;
       goes = left.goes;
-      keeps = keeps_left _ _ _ _ _ _ e left;
+      keeps = gathers_left _ _ _ _ _ _ e left;
     })
 
 pub returns : goal.returns
@@ -67,15 +67,15 @@ returns g c =
     c.in_ok-known.ensures.batch in
     record {
       went =
-          on_ok_weaker c.settle.result (record_taken take c.in_ok-commit.ensures.went)
+          on_ok_weaker c.settle.result (record_taken take c.in_ok-join.ensures.went)
           c.settle.ensures.went;
-      stopped =
+      halted =
           IfErr-weaker c.settle.result _ _
-          (record_stops_at_settle take c.in_ok-commit.ensures.went) c.settle.ensures.stopped;
+          (record_halts_at_settle take c.in_ok-join.ensures.went) c.settle.ensures.halted;
       goes =
-          goes_then _ _ _ c.in_ok-commit.ensures.went.did.goes
-          (settle_goes _ _ _ _ _ c.settle.result c.settle.ensures.went c.settle.ensures.stopped);
+          goes_then _ _ _ c.in_ok-join.ensures.went.under.goes
+          (settle_goes _ _ _ _ _ c.settle.result c.settle.ensures.went c.settle.ensures.halted);
       keeps =
-          take_keeps take c.in_ok-commit.ensures.went
-          (settle_keeps _ _ _ _ _ c.settle.result c.settle.ensures.went c.settle.ensures.stopped);
+          take_keeps take c.in_ok-join.ensures.went
+          (settle_keeps _ _ _ _ _ c.settle.result c.settle.ensures.went c.settle.ensures.halted);
     }

@@ -113,7 +113,7 @@ returns g c =
           load.reads c.hang_up_all.ensures two
           told (load.rests two told).moments (c.in_ok-store.ensures.loaded two told)
           c.in_ok-store.ensures.opened.ready.fits _ ran.ran c.in_ok-test_words.ensures.tested
-          c.all_is_sent.ensures.whole c.all_is_sent.ensures.full c.runs_end_quiet.ensures ran.rests;
+          c.all_is_sent.ensures c.runs_end_quiet.ensures ran.rests;
       specs = specs_kept words ended new (ap (λ (l : Links). specs_of l.told) same) ran.links.specs;
       caused =
           caused_behind words old loaded ended new load.run same c.hang_up_all.ensures.same_faults

@@ -11,7 +11,7 @@ use Rattle.sync_store.specs.Inside.{value_of}
 use Rattle.sync_store.specs.Commits.{GainsBatch, MayAdd}
 use Rattle.sync_store.specs.Groups.{HasGathered, HasGroupRoom}
 use Rattle.sync_store.proofs.FitSteps.{framed_len}
-use Rattle.sync_store.proofs.GroupSteps.{frame_finds_room, gathered_more, group_some, joins_group}
+use Rattle.sync_store.proofs.GroupSteps.{gathered_more, group_some, joins_group}
 use Rattle.sync_store.proofs.Growth.{grown_store}
 use Rattle.sync_store.proofs.Limits.{counts_few, few_held}
 use Rattle.sync_store.proofs.store.Store.add.Goals as goal
@@ -119,10 +119,8 @@ returns-clause-knows g c knows =
     c.take_known.ensures.knows clients
     (subst (λ (v : StoreValue). KnowsJudgements clients v.state) (sym c.self.view_is) knows)
 
-pub add-requires-clause-room : goal.add-requires-clause-room
-add-requires-clause-room g c =
-    let clients = g.C.Clients.meaning c.args.clients.now in
-    let s = value_of c.self.inside in
-    let framed = c.args.framed.now in
-    let room = subst HasGroupRoom (sym c.self.view_is) c.requires.waits in
-    frame_finds_room s.waiting framed c.requires.may.is_framed room
+pub add-requires-clause-waits : goal.add-requires-clause-waits
+add-requires-clause-waits g c = c.self.invariant.waits
+
+pub add-requires-clause-place : goal.add-requires-clause-place
+add-requires-clause-place g c = subst HasGroupRoom (sym c.self.view_is) c.requires.waits

@@ -21,13 +21,13 @@ pub invariant_of-self : goal.invariant_of-self
 invariant_of-self g c =
     let s = value_of c.self.inside in
     emptied_store s _ c.self.invariant
-    (flushed_store s c.self.inside.journal c.flush.new.self c.flush.new.group refl refl refl refl
+    (flushed_store s c.self.inside.journal c.flush.new.journal c.flush.new.self refl refl refl refl
     c.in-Ok.ensures.ok c.in-Ok.ensures.empty)
 
 pub returns-in-Ok-clause-ok : goal.returns-in-Ok-clause-ok
 returns-in-Ok-clause-ok g c =
     let s = value_of c.self.inside in
-    flushed_store s c.self.inside.journal c.flush.new.self c.flush.new.group refl refl refl refl
+    flushed_store s c.self.inside.journal c.flush.new.journal c.flush.new.self refl refl refl refl
     c.in-Ok.ensures.ok c.in-Ok.ensures.empty
     ∙ ap (λ (v : StoreValue). record v { waiting = 0 ∷ [] }) c.self.view_is
 
@@ -43,7 +43,7 @@ returns-in-Ok-clause-adds g c before kept more gathered =
     let file : j.file ≡ before.file = g'.file in
     let end : j.end ≡ before.end = sym (end_before clients before s more j.end g' refl) in
     adds_all clients before s more kept c.self.invariant g' c.cite_laws.ensures.stand _ o o'
-    (flushed_store s j c.flush.new.self c.flush.new.group refl refl refl refl
+    (flushed_store s j c.flush.new.journal c.flush.new.self refl refl refl refl
     c.in-Ok.ensures.ok c.in-Ok.ensures.empty)
     (same_passed o o' s.waiting j.file before.file j.end before.end file end
     c.in-Ok.ensures.any_moment)
@@ -64,7 +64,7 @@ returns-in-Ok-clause-ready g c still =
     let j = c.self.inside.journal in
     let file : j.file ≡ before.file = g'.file in
     let end : j.end ≡ before.end = sym (end_before clients before s more j.end g' refl) in
-    let is = flushed_store s j c.flush.new.self c.flush.new.group refl refl refl refl
+    let is = flushed_store s j c.flush.new.journal c.flush.new.self refl refl refl refl
     c.in-Ok.ensures.ok c.in-Ok.ensures.empty in
     ready_added clients s _ o o' open' is still c.in-Ok.ensures.run
     (adds_all clients before s more open'.kept c.self.invariant g' c.cite_laws.ensures.stand _ o o'
@@ -93,7 +93,7 @@ pub returns-in-Ok-clause-numbers : goal.returns-in-Ok-clause-numbers
 returns-in-Ok-clause-numbers g c =
     let s = value_of c.self.inside in
     emptied_store s _ c.self.invariant
-    (flushed_store s c.self.inside.journal c.flush.new.self c.flush.new.group refl refl refl refl
+    (flushed_store s c.self.inside.journal c.flush.new.journal c.flush.new.self refl refl refl refl
     c.in-Ok.ensures.ok c.in-Ok.ensures.empty)
 
 pub returns-in-Ok-clause-appends : goal.returns-in-Ok-clause-appends
@@ -107,7 +107,7 @@ returns-in-Ok-clause-appends g c before more gathered =
     let j = c.self.inside.journal in
     let file : j.file ≡ before.file = g'.file in
     let end : j.end ≡ before.end = sym (end_before clients before s more j.end g' refl) in
-    let is = flushed_store s j c.flush.new.self c.flush.new.group refl refl refl refl
+    let is = flushed_store s j c.flush.new.journal c.flush.new.self refl refl refl refl
     c.in-Ok.ensures.ok c.in-Ok.ensures.empty in
     let still : s.closed ≡ false = ap (λ (v : StoreValue). v.closed) c.self.view_is
     ∙ c.requires.gathering.still_open in

@@ -17,7 +17,7 @@ use Rattle.sync_store.specs.Inside.{value_of}
 use Rattle.sync_store.specs.Gathering.{GathersSteps}
 use Rattle.sync_store.specs.Groups.{HasGroupRoom}
 use Rattle.sync_store.proofs.Errors.{err_is}
-use Rattle.sync_store.proofs.GroupSteps.{frame_finds_room, group_some}
+use Rattle.sync_store.proofs.GroupSteps.{group_some}
 use Rattle.sync_store.proofs.Growth.{Came, Filled, filled_framed, filled_from, filled_steps}
 use Rattle.sync_store.proofs.Growth.{filled_store, filled_whole, length_nil, none_by, some_by}
 use Rattle.sync_store.proofs.Growth.{starved_none}
@@ -109,27 +109,11 @@ add-requires-clause-framed g c =
     c.self.invariant still in
     filled_framed clients s c.fill-filled.new.state.facts es framed filled
 
-pub add-requires-clause-room : goal.add-requires-clause-room
-add-requires-clause-room g c =
-    let clients = g.C.Clients.meaning c.args.clients.now in
-    let s = value_of c.self.inside in
-    let es = c.as_slice.result.now in
-    let framed = c.as_slice-2.result.now in
-    let still : s.closed ≡ false = ap (λ (v : StoreValue). v.closed) c.self.view_is
-    ∙ c.requires.still_open in
-    let filled : Filled clients s c.fill-filled.new.state.facts es framed =
-    filled_from clients s c.format_meant-format.result (c.format_meant-format.ensures
-    ∙ ap format_meant c.format.ensures.value) c.fill-filled.new.state.facts
-    c.fill-filled.new.entries.items es c.frame_steps.new.to.items framed
-    c.as_slice.ensures.value c.fill-filled.ensures.steps c.fill-filled.ensures.facts
-    (some_by c.is_empty.result _ (length es) c.is_empty.ensures c.if-is_empty.false
-    c.as_slice.ensures.len) (omega (arith, c.fill-filled.ensures.few, c.as_slice.ensures.len))
-    c.frame_steps.ensures.within
-    c.as_slice-2.ensures.value c.frame_steps.ensures.framed c.frame_steps.ensures.len
-    c.self.invariant still in
-    frame_finds_room s.waiting framed
-    (filled_framed clients s c.fill-filled.new.state.facts es framed filled)
-    (subst HasGroupRoom (sym c.self.view_is) c.requires.room)
+pub add-requires-clause-waits : goal.add-requires-clause-waits
+add-requires-clause-waits g c = c.self.invariant.waits
+
+pub add-requires-clause-place : goal.add-requires-clause-place
+add-requires-clause-place g c = subst HasGroupRoom (sym c.self.view_is) c.requires.room
 
 pub invariant_of-self-2 : goal.invariant_of-self-2
 invariant_of-self-2 g c =

@@ -1,9 +1,7 @@
-use Rattle.std.proofs.Common.{List}
 use Rattle.outside.specs.Outside.{DiskRun}
-use Rattle.sync_rules.specs.declared.entries.Entry.{Entry}
 use Rattle.sync_rules.specs.Left.{left_of}
-use Rattle.sync_store.specs.Groups.{HasGathered, IsGathering}
-use Rattle.sync_store.specs.Store.{IsStore, StoreValue}
+use Rattle.sync_store.specs.Groups.{IsGathering}
+use Rattle.sync_store.specs.Store.{IsStore}
 use Rattle.sync_store.proofs.SettleLoop.{SettlesWhile}
 use Rattle.sync_store.proofs.store.Store.gather_settling.Given as goal
 
@@ -13,9 +11,7 @@ invariant-batches g l = record {
   gathering : IsGathering (g.C.Clients.meaning l.clients) l.self (g.D.Disk.tells l.disk).files;
   numbers : IsStore l.self;
   run : DiskRun (g.D.Disk.tells l.fn.disk) (g.D.Disk.tells l.disk);
-  settles : (before : StoreValue) → IsStore before → (waits : List (List Entry))
-      → HasGathered (g.C.Clients.meaning l.clients) before l.fn.self waits
-      → SettlesWhile (g.C.Clients.meaning l.clients) before l.fn.self l.self waits
+  settles : SettlesWhile (g.C.Clients.meaning l.clients) l.fn.self l.self
       (g.D.Disk.tells l.fn.disk) (g.D.Disk.tells l.disk);
 }
 

@@ -1,6 +1,6 @@
-use Rattle.std.proofs.Common.{length, refl, sym, ◌∙◌}
+use Rattle.std.proofs.Common.{refl, sym, ◌∙◌}
 use Rattle.sync_store.proofs.Gathered.{flush_added, gathering_then, has_room_then, keeps_flushed}
-use Rattle.sync_store.proofs.Gathered.{room_made, room_so, underway_begins}
+use Rattle.sync_store.proofs.Gathered.{room_made, underway_begins}
 use Rattle.sync_store.proofs.store.Store.make_room.Goals as goal
 
 pub returns-then-has_group_room-clause-makes : goal.returns-then-has_group_room-clause-makes
@@ -20,8 +20,7 @@ returns-then-has_group_room-clause-same g c = record {
 
 pub returns-then-has_group_room-clause-room : goal.returns-then-has_group_room-clause-room
 returns-then-has_group_room-clause-room g c =
-    room_so (length c.args.self.now.waiting) c.has_group_room.result c.has_group_room.ensures
-    c.if-has_group_room.true
+    sym c.has_group_room.ensures ∙ c.if-has_group_room.true
 
 pub returns-clause-makes : goal.returns-clause-makes
 returns-clause-makes g c before kept waits gathered =

@@ -4,7 +4,8 @@ use Rattle.sync_store.specs.declared.fault.StoreFault.{StoreFault}
 use Rattle.sync_store.specs.Gathering.{SettlesOut}
 use Rattle.sync_store.specs.Store.{StoreValue}
 use Rattle.sync_store.proofs.Errors.{err_is}
-use Rattle.sync_store.proofs.Gathered.{flush_added, keeps_flushed}
+use Rattle.sync_store.proofs.Behind.{flush_behind}
+use Rattle.sync_store.proofs.Gathered.{keeps_flushed}
 use Rattle.sync_store.proofs.Runs.{rose_still}
 use Rattle.sync_store.proofs.SettleLoop.{out_added, out_broken, out_closed}
 use Rattle.sync_store.proofs.store.Store.settle_gathered.Goals as goal
@@ -17,8 +18,8 @@ returns-then-self-clause-settles g c before kept waits gathered =
     let closed : c.gather_settling-settled.new.self.closed ≡ true =
     ap (λ (v : StoreValue). v.closed) (sym c.self.view_is) ∙ c.if-self.true in
     out_closed clients before c.args.self.now c.gather_settling-settled.new.self waits
-    c.gather_settling-settled.result o o' closed
-    (c.gather_settling-settled.ensures.settles before kept waits gathered)
+    c.gather_settling-settled.result o o' closed kept gathered
+    c.gather_settling-settled.ensures.settles
 
 pub flush-requires : goal.flush-requires
 flush-requires g c = record {
@@ -43,12 +44,10 @@ returns-in_err-flush-clause-settles g c before kept waits gathered =
     subst (λ (r : Result (Unit {0}) StoreFault). SettlesOut clients before s0 new waits r o o2)
     (sym (err_is c.from_residual.result e c.from_residual.ensures.1
     ∙ ap (λ (x : StoreFault). Err x) f.err.0))
-    (out_broken clients before s0 s new waits c.gather_settling-settled.result o o1 o2 was
-    (c.gather_settling-settled.ensures.settles before kept waits gathered)
-    (keeps_flushed s new (Err e) tt f.err)
-    (λ mid kept' rest g'. flush_added clients mid s new rest (Err e) o1 o2 tt f.err
-    c.flush.ensures.run f.calls g' (c.flush.ensures.appends mid rest g')
-    (c.flush.ensures.adds mid kept' rest g'))
+    (out_broken clients before s0 s new waits c.gather_settling-settled.result o o1 o2 was kept
+    gathered c.gather_settling-settled.ensures.settles (keeps_flushed s new (Err e) tt f.err)
+    (flush_behind clients s new (Err e) o1 o2 tt f.err c.flush.ensures.run f.calls
+    c.flush.ensures.appends c.flush.ensures.adds)
     (ap (λ (v : StoreValue). v.closed) f.err.1))
 
 pub returns-clause-settles : goal.returns-clause-settles
@@ -63,12 +62,10 @@ returns-clause-settles g c before kept waits gathered =
     let was : s.closed ≡ false = ap (λ (v : StoreValue). v.closed) (sym c.self.view_is)
     ∙ c.if-self.false in
     let f = c.in_ok-flush.ensures in
-    out_added clients before s0 s new waits c.gather_settling-settled.result o o1 o2 was
-    (c.gather_settling-settled.ensures.settles before kept waits gathered)
-    (keeps_flushed s new (Ok tt) f.ok tt)
-    (λ mid kept' rest g'. flush_added clients mid s new rest (Ok tt) o1 o2 f.ok tt
-    c.flush.ensures.run f.calls g' (c.flush.ensures.appends mid rest g')
-    (c.flush.ensures.adds mid kept' rest g'))
+    out_added clients before s0 s new waits c.gather_settling-settled.result o o1 o2 was kept
+    gathered c.gather_settling-settled.ensures.settles (keeps_flushed s new (Ok tt) f.ok tt)
+    (flush_behind clients s new (Ok tt) o1 o2 f.ok tt c.flush.ensures.run f.calls
+    c.flush.ensures.appends c.flush.ensures.adds)
     (ap (λ (v : StoreValue). v.closed) f.ok ∙ was)
 
 pub returns-in_err-flush-clause-run : goal.returns-in_err-flush-clause-run
