@@ -9,7 +9,8 @@ use Rattle.sync_rules.specs.Steps.{IsSettled}
 use Rattle.sync_store.specs.declared.fault.StoreFault.{StoreFault}
 use Rattle.sync_store.specs.declared.fault.StoreFault.TheVariants as fault
 use Rattle.sync_store.specs.Commits.{needed}
-use Rattle.sync_store.specs.Store.{StoreValue}
+use Rattle.sync_store.specs.Moments.{groups_for}
+use Rattle.sync_store.specs.Store.{StoreValue, written_in}
 use Rattle.mailbox_laws.specs.Boxes.{box_session}
 use Rattle.mailbox_core.specs.declared.ends.BoxEnd.{BoxEnd}
 use Rattle.mailbox_core.specs.Files.{box_ending, box_records}
@@ -42,8 +43,7 @@ ReadsUntilFull clients contact f s records more =
     ⊎ ReadsTo clients contact (NoRoomFor f.begun s) f records more
 
 -- By the answer: the batches behind a journal of facts `f`, and the store then. It is not closed
--- but after DiskFault; then the
--- last batch may stand in the files or not.
+-- but after DiskFault; then the batches of the last group may stand in the files or not.
 abbrev pub ReadsSo : Meaning → ℕ → List ℕ → Facts → StoreValue → List (List Entry)
     → Result BoxEnd StoreFault → Type 0
 ReadsSo clients contact bytes f s more (Ok end) =
@@ -59,10 +59,12 @@ ReadsSo clients contact bytes f s more (Err fault.Memory) =
 ReadsSo clients contact bytes f s more (Err fault.DiskFault) =
     (s.closed ≡ true) × ReadsSome clients contact f (box_records bytes) more
 
--- a file of these bytes was read into a store that is not closed
+-- a file of these bytes was read into a store that is not closed: its batches were added in as few
+-- groups as their frames take
 pub record HasReadBox (clients : Meaning) (contact : ℕ) (bytes : List ℕ) (s s' : StoreValue)
     (result : Result BoxEnd StoreFault)
     (o o' : Outside) : Type 0 where
   pub more : List (List Entry)
   pub comes : StoreComesTo clients s s' o o' more
+  pub counted : comes.runs.groups ≡ groups_for (written_in s) 0 more
   pub answer : ReadsSo clients contact bytes s.state.facts s' more result

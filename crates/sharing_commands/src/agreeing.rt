@@ -126,10 +126,58 @@ fn add_agreed<D: Disk, C: Clients>(
     ensures text { OnOk result (string_bytes to.new ≡ string_bytes to.old ++ agreed_text
         (C.meaning clients.now) contact group.now store.old.state.facts) }
 {
+    let gathered = gather_agreed(alloc, store, contact, group, disk, clients, to);
+    if store.is_closed() {
+        return gathered;
+    }
+    flush(store, disk, clients)?;
+    gathered
+}
+
+// Gathers what the targets ask of a settled journal, and adds their lines. What was gathered waits,
+// whatever the answer is.
+fn gather_agreed<D: Disk, C: Clients>(
+    alloc: Global,
+    store: &mut Store,
+    contact: u8,
+    group: &GroupId,
+    disk: &mut D,
+    clients: &C,
+    to: &mut String,
+) -> Result<(), Outcome>
+    requires stands { GathersFor (C.meaning clients.now) store.old (D.tells disk.old) contact }
+    ensures adds { GathersFront (C.meaning clients.now) store.old store.new (D.tells disk.old)
+        (D.tells disk.new) (agreed_batches (C.meaning clients.now) contact group.now
+        store.old.state.facts) result }
+    ensures by { ExtendsBy (D.tells disk.old) (D.tells disk.new) result }
+    ensures stands { StaysGathering (C.meaning clients.now) store.new (D.tells disk.new) contact
+        result }
+    ensures text { OnOk result (string_bytes to.new ≡ string_bytes to.old ++ agreed_text
+        (C.meaning clients.now) contact group.now store.old.state.facts) }
+{
     images_stand();
     let said = gather_words(alloc, store, contact, group)?;
     let targets = targets(alloc, said.as_slice())?;
     set_all(alloc, store, contact, targets.as_slice(), disk, clients, to)
+}
+
+// Adds all that waits to the journal.
+fn flush<D: Disk, C: Clients>(
+    store: &mut Store,
+    disk: &mut D,
+    clients: &C,
+) -> Result<(), Outcome>
+    requires { IsGathering (C.meaning clients.now) store.old (D.tells disk.old).files }
+    ensures flushes { Flushes (C.meaning clients.now) store.old store.new (D.tells disk.old)
+        (D.tells disk.new) result }
+    ensures by { ExtendsBy (D.tells disk.old) (D.tells disk.new) result }
+    ensures ready { OnOk result (IsReady (C.meaning clients.now) store.new (D.tells disk.new).files) }
+    ensures is_store { IsStore store.new }
+{
+    match store.flush(disk, clients) {
+        Ok(()) => Ok(()),
+        Err(_) => Err(Outcome::DiskFault),
+    }
 }
 
 // Prints a text.

@@ -21,3 +21,4 @@ mod MigrateSteps
 mod BriefFacts
 mod CompactSteps
 pub mod Runs
+pub mod Together

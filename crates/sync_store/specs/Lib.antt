@@ -18,3 +18,4 @@ pub mod Refusals
 pub mod Loading
 pub mod Asking
 pub mod Cited
+pub mod Together
