@@ -9,12 +9,11 @@ use Rattle.sync_rules.specs.Steps.{IsSettled}
 use Rattle.sync_store.specs.declared.fault.StoreFault.{StoreFault}
 use Rattle.sync_store.specs.declared.fault.StoreFault.TheVariants as fault
 use Rattle.sync_store.specs.Commits.{needed}
-use Rattle.sync_store.specs.Moments.{groups_for}
-use Rattle.sync_store.specs.Store.{StoreValue, written_in}
+use Rattle.sync_store.specs.Store.{StoreValue}
 use Rattle.mailbox_laws.specs.Boxes.{box_session}
 use Rattle.mailbox_core.specs.declared.ends.BoxEnd.{BoxEnd}
 use Rattle.mailbox_core.specs.Files.{box_ending, box_records}
-use Rattle.sync_store.specs.Rooms.{StoreComesTo}
+use Rattle.sync_store.specs.Together.{ComesInGroups}
 use Rattle.mailbox_core.specs.Taking.{AllTaken, BeginsThen, NoRoomFor, SomeTaken, TakesTo}
 use Rattle.mailbox_core.specs.Taking.{first_batch}
 
@@ -65,6 +64,5 @@ pub record HasReadBox (clients : Meaning) (contact : ℕ) (bytes : List ℕ) (s 
     (result : Result BoxEnd StoreFault)
     (o o' : Outside) : Type 0 where
   pub more : List (List Entry)
-  pub comes : StoreComesTo clients s s' o o' more
-  pub counted : comes.runs.groups ≡ groups_for (written_in s) 0 more
+  pub adds : ComesInGroups clients s s' o o' more
   pub answer : ReadsSo clients contact bytes s.state.facts s' more result

@@ -18,9 +18,8 @@ use Rattle.sync_course.specs.LinkTurns.{out_batch}
 use Rattle.sync_store.specs.declared.fault.StoreFault.{StoreFault}
 use Rattle.sync_store.specs.declared.fault.StoreFault.TheVariants as fault
 use Rattle.sync_store.specs.Commits.{needed}
-use Rattle.sync_store.specs.Moments.{groups_for}
-use Rattle.sync_store.specs.Store.{StoreValue, written_in}
-use Rattle.sync_store.specs.Rooms.{StoreComesTo}
+use Rattle.sync_store.specs.Store.{StoreValue}
+use Rattle.sync_store.specs.Together.{ComesInGroups}
 use Rattle.mailbox_core.specs.Taking.{BeginsThen, first_batch}
 
 -- ---- outputs
@@ -113,6 +112,5 @@ pub record HasWrittenBox (clients : Meaning) (contact latency now count : ℕ) (
     (to to' : List ℕ)
     (result : Result ℕ StoreFault) (o o' : Outside) : Type 0 where
   pub more : List (List Entry)
-  pub comes : StoreComesTo clients s s' o o' more
-  pub counted : comes.runs.groups ≡ groups_for (written_in s) 0 more
+  pub adds : ComesInGroups clients s s' o o' more
   pub answer : WritesSo clients contact latency now count s.state.facts s' more to to' result

@@ -98,7 +98,9 @@ fn put_added<D: Disk, C: Clients>(
         → CountRose (D.tells disk.old).disk_faults (D.tells disk.new).disk_faults }
 {
     images_stand();
-    let made = put_box(alloc, store, disk, clients, contact, latency, now, count, to);
+    let made = put_box(
+        alloc, store, disk, clients, contact, latency, now, count, to,
+    );
     if store.is_closed() {
         return made;
     }
@@ -134,9 +136,7 @@ fn put_box<D: Disk, C: Clients>(
         → CountRose (D.tells disk.old).disk_faults (D.tells disk.new).disk_faults }
 {
     let session = begin(alloc, store, disk, clients, contact, latency)?;
-    put_all(
-        alloc, store, disk, clients, &session, now, count, to,
-    )
+    put_all(alloc, store, disk, clients, &session, now, count, to)
 }
 
 // Gathers what is due on a session, at most so many outputs, and adds their bytes.

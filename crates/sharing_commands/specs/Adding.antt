@@ -20,13 +20,13 @@ pub record LacksRoomForTarget (s : StoreValue) (all front : List (List Entry)) :
   pub parts : all ≡ front ++ next ∷ rest
   pub over : s.limit < needed s next
 
--- which batches were added, by the answer
+-- which batches were added, by the answer; the store is closed after DiskFault, and only then
 abbrev pub AddsSo : StoreValue → (all front : List (List Entry)) → Result (Unit {0}) Outcome
     → Type 0
 AddsSo s all front (Ok _) = (s.closed ≡ false) × (front ≡ all)
 AddsSo s all front (Err outcome.Full) = (s.closed ≡ false) × LacksRoomForTarget s all front
-AddsSo s all front (Err outcome.Memory) = IsFront front all
-AddsSo s all front (Err outcome.DiskFault) = IsFront front all
+AddsSo s all front (Err outcome.Memory) = (s.closed ≡ false) × IsFront front all
+AddsSo s all front (Err outcome.DiskFault) = (s.closed ≡ true) × IsFront front all
 AddsSo s all front (Err _) = ⊥
 
 -- a store came by a front of these batches to this one, behind those that wait of it, as far as the
@@ -66,7 +66,7 @@ pub record GathersFor (clients : Meaning) (s : StoreValue) (o : Outside)
   pub settled : IsSettled clients s.state.facts
   pub known : contact < s.state.facts.contacts
 
--- what stands of it likewise; a store is closed where the disk failed, and only there
+-- what stands of it likewise
 abbrev pub StaysGathering : Meaning → StoreValue → Outside → ℕ → Result (Unit {0}) Outcome → Type 0
-StaysGathering clients s o contact (Err outcome.DiskFault) = s.closed ≡ true
+StaysGathering clients s o contact (Err outcome.DiskFault) = Unit {0}
 StaysGathering clients s o contact _ = GathersFor clients s o contact

@@ -1,5 +1,5 @@
 // Entries that a settled store gathers, each a batch of its own.
-ghost use Rattle.std.specs.Prelude.{◌≡◌, ◌∷◌, [], false, true, is_ok, is_some, IsErrOf, OnOk};
+ghost use Rattle.std.specs.Prelude.{◌≡◌, ◌∷◌, [], false, true, is_ok, is_some, OnOk};
 ghost use Rattle.sync_ids.specs.Ids.{group_id_of};
 ghost use Rattle.sync_rules.specs.Allows.{is_account_kind, is_settling_kind};
 ghost use Rattle.sync_rules.specs.Facts.{group_at};
@@ -33,7 +33,6 @@ fn gather<D: Disk, C: Clients>(
     ensures adds { GathersFront (C.meaning clients.now) store.old store.new (D.tells disk.old)
         (D.tells disk.new) (batch ∷ []) result }
     ensures by { ExtendsBy (D.tells disk.old) (D.tells disk.new) result }
-    ensures closed { IsErrOf result Outcome.DiskFault → store.new.closed ≡ true }
     ensures gathering { store.new.closed ≡ false
         → IsGathering (C.meaning clients.now) store.new (D.tells disk.new).files }
 {

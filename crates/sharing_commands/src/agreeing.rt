@@ -7,7 +7,8 @@ ghost use Rattle.store_commands.specs.Load.{MayExtend};
 ghost use Rattle.store_commands.specs.Running.{RunsErrand};
 ghost use Rattle.store_commands.specs.Serving.{IsServed, ServesOn, WasLoaded};
 ghost use Rattle.store_commands.specs.Show.{PrintsText};
-ghost use Rattle.sharing_commands.specs.Adding.{AddsFront, KnowsContact, StaysKnown};
+ghost use Rattle.sharing_commands.specs.Adding.{AddsFront, GathersFor, GathersFront, KnowsContact};
+ghost use Rattle.sharing_commands.specs.Adding.{StaysGathering, StaysKnown};
 ghost use Rattle.sharing_commands.specs.Agreeing.{HasAgreed, agreement};
 ghost use Rattle.sharing_commands.specs.Agreement.{agree_test, agreed_batches, agreed_text};
 
@@ -130,8 +131,10 @@ fn add_agreed<D: Disk, C: Clients>(
     if store.is_closed() {
         return gathered;
     }
-    flush(store, disk, clients)?;
-    gathered
+    match store.flush(disk, clients) {
+        Ok(()) => gathered,
+        Err(_) => Err(Outcome::DiskFault),
+    }
 }
 
 // Gathers what the targets ask of a settled journal, and adds their lines. What was gathered waits,
@@ -159,25 +162,6 @@ fn gather_agreed<D: Disk, C: Clients>(
     let said = gather_words(alloc, store, contact, group)?;
     let targets = targets(alloc, said.as_slice())?;
     set_all(alloc, store, contact, targets.as_slice(), disk, clients, to)
-}
-
-// Adds all that waits to the journal.
-fn flush<D: Disk, C: Clients>(
-    store: &mut Store,
-    disk: &mut D,
-    clients: &C,
-) -> Result<(), Outcome>
-    requires { IsGathering (C.meaning clients.now) store.old (D.tells disk.old).files }
-    ensures flushes { Flushes (C.meaning clients.now) store.old store.new (D.tells disk.old)
-        (D.tells disk.new) result }
-    ensures by { ExtendsBy (D.tells disk.old) (D.tells disk.new) result }
-    ensures ready { OnOk result (IsReady (C.meaning clients.now) store.new (D.tells disk.new).files) }
-    ensures is_store { IsStore store.new }
-{
-    match store.flush(disk, clients) {
-        Ok(()) => Ok(()),
-        Err(_) => Err(Outcome::DiskFault),
-    }
 }
 
 // Prints a text.

@@ -37,8 +37,9 @@ use Rattle.sync_store.specs.Together.{ComesBehind, ComesInGroups, FindRoom, join
 use Rattle.sync_store.proofs.Behind.{added_all, adds_format, adds_limit, behind_adds, behind_format}
 use Rattle.sync_store.proofs.Behind.{behind_limit, behind_none, behind_then}
 use Rattle.sync_store.proofs.FitSteps.{true≢false}
-use Rattle.sync_store.proofs.Gathered.{gathered_none}
+use Rattle.sync_store.proofs.Gathered.{gathered_none, stays_itself}
 use Rattle.sync_store.proofs.GroupSteps.{joined_len, payloads_append}
+use Rattle.sync_store.proofs.Runs.{runs_nothing}
 
 abbrev Batches : Type 0
 Batches = List (List Entry)
@@ -303,3 +304,12 @@ module _ (clients : Meaning) where
         in_groups s2 o2 more comes.roomy
         (subst (λ (xs : Batches). AddsBehind clients s s2 o o2 xs) (append-nil more)
         (behind_adds clients s s1 s2 o o1 o2 more [] (comes.waits opened) flush))
+
+    -- nothing was done
+    pub comes_nothing : ImagesStand → ComesInGroups clients s s o o []
+    comes_nothing images =
+        let nothing = runs_nothing images clients s s o kept (stays_itself s) in
+        record {
+          comes = record { runs = nothing.0; roomy = λ two told j fits. tt };
+          counted = nothing.1;
+        }

@@ -44,4 +44,4 @@ joined_by batch (Err _) = []
 pub record ComesInGroups (clients : Meaning) (s s' : StoreValue) (o o' : Outside)
     (more : List (List Entry)) : Type 0 where
   pub comes : StoreComesTo clients s s' o o' more
-  pub counted : comes.runs.groups ≡ groups_for (written_in s) 0 more
+  pub counted : comes.runs.groups ≡ groups_for (written_in s) 0 0 more

@@ -6,7 +6,7 @@ use Rattle.sync_store.specs.declared.fault.StoreFault.TheVariants as fault
 use Rattle.mailbox_core.specs.Steps.{HasBegunSession}
 use Rattle.mailbox_core.specs.Taking.{first_batch}
 use Rattle.mailbox_core.proofs.BeginSteps.{begun_found, begun_starved, of_its_batch}
-use Rattle.mailbox_core.proofs.Committed.{on_error}
+use Rattle.mailbox_core.proofs.Joined.{on_error}
 use Rattle.mailbox_core.proofs.steps.begin.Goals as goal
 
 pub returns-in_err-batch-clause-begun : goal.returns-in_err-batch-clause-begun
@@ -17,7 +17,7 @@ returns-in_err-batch-clause-begun g c =
     on_error c.from_residual.result fault.Memory
     (λ r. HasBegunSession clients c.args.contact c.args.latency s s r o o) c.from_residual.ensures.1
     (begun_starved c.images_stand.ensures clients c.args.contact c.args.latency s o
-    c.requires.is_store c.requires.ready.still_open)
+    c.requires.gathering.still_open)
 
 pub unreachable-requires : goal.unreachable-requires
 unreachable-requires g c =
@@ -27,12 +27,12 @@ unreachable-requires g c =
     let batch = c.in_ok-batch.ensures
     ∙ ap (λ (k : ℕ). first_batch (batch_session k c.args.contact c.args.latency))
     c.sessions-number.ensures in
-    let found = begun_found clients c.args.contact c.args.latency s c.commit.new.store
-    (g.D.Disk.tells c.args.disk.now) (g.D.Disk.tells c.commit.new.disk) tt
-    (of_its_batch clients s c.commit.new.store c.in_ok-batch.batch
+    let found = begun_found clients c.args.contact c.args.latency s c.gather_known.new.self
+    (g.D.Disk.tells c.args.disk.now) (g.D.Disk.tells c.gather_known.new.disk) tt
+    (of_its_batch clients s c.gather_known.new.self c.in_ok-batch.batch
     (first_batch (batch_session n c.args.contact c.args.latency)) (Ok tt)
-    (g.D.Disk.tells c.args.disk.now) (g.D.Disk.tells c.commit.new.disk) batch
-    c.in_ok-commit.ensures.committed) in
+    (g.D.Disk.tells c.args.disk.now) (g.D.Disk.tells c.gather_known.new.disk) batch
+    c.in_ok-gather_known.ensures.joins) in
     let none = sym c.in-None.is
     ∙ (c.session.ensures.value
     ∙ (λ i. session_at (c.state.ensures i).facts.sessions (c.sessions-number.ensures i))) in

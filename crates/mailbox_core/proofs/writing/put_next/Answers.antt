@@ -4,7 +4,7 @@ use Rattle.journal_state.specs.Whole.{KnowsJudgements, StateValue}
 use Rattle.sync_rules.specs.Facts.{session_at}
 use Rattle.sync_store.specs.declared.fault.StoreFault.TheVariants as fault
 use Rattle.mailbox_core.specs.Steps.{HasPut}
-use Rattle.mailbox_core.proofs.Committed.{on_error}
+use Rattle.mailbox_core.proofs.Joined.{on_error}
 use Rattle.mailbox_core.proofs.SendSteps.{put_none, put_starved}
 use Rattle.mailbox_core.proofs.writing.put_next.Goals as goal
 
@@ -28,7 +28,7 @@ returns-in_default-clause-put g c =
     (g.D.Disk.tells c.args.disk.now) c.requires.able c.args.to.now.items
     (sym c.in_default.is
     ∙ (c.in_ok-out.ensures.due clients
-    (subst (KnowsJudgements clients) (sym c.state.ensures) c.requires.able.ready.knows)
+    (subst (KnowsJudgements clients) (sym c.state.ensures) c.requires.able.gathering.knows)
     ∙ ap (λ (t : StateValue). due_of clients t.facts (session_at t.facts.sessions n) c.args.now)
     c.state.ensures))
 
