@@ -2,7 +2,7 @@
 use Rattle.std.proofs.Common.{◌≡◌, ℕ, ◌<◌, true, false, cond, List, [], ◌∷◌, ◌++◌, length}
 use Rattle.std.proofs.Common.{refl, sym, ◌∙◌, ap, subst, inl, inr, arith, Some, None, is_some}
 use Rattle.std.proofs.Common.{nat_eq, eq-eqb, eqb-true, Result, Ok, Err}
-use Rattle.outside.specs.Outside.{Outside}
+use Rattle.outside.specs.Outside.{DiskRun, Outside}
 use Rattle.record_stream.specs.Reading.{fresh_reader}
 use Rattle.sync_ids.specs.declared.records.Record.{Record}
 use Rattle.sync_rules.specs.declared.entries.Entry.{Entry}
@@ -20,7 +20,7 @@ use Rattle.sync_store.specs.Fitting.{ImagesStand}
 use Rattle.sync_store.specs.Gathering.{JoinsBehind}
 use Rattle.sync_store.specs.Groups.{IsGathering}
 use Rattle.sync_store.specs.Store.{StoreValue}
-use Rattle.sync_store.proofs.Together.{comes_joined, comes_none, comes_then}
+use Rattle.mailbox_core.proofs.Together.{comes_joined, comes_none, comes_then}
 use Rattle.mailbox_core.specs.declared.ends.BoxEnd.{BoxEnd}
 use Rattle.mailbox_core.specs.Files.{box_ending, box_records}
 use Rattle.mailbox_core.specs.Reading.{ReadsSo, ReadsTo}
@@ -74,12 +74,13 @@ module _ (clients : Meaning) (contact latency : ℕ) (s s' : StoreValue) (o o' :
       ∙ found_pushed s.state.facts.sessions (batch_session s.state.facts.begun contact latency)
       s.state.facts.begun refl
 
-  pub has_begun : (u : Unit {0}) (session : Session) → JoinsBehind clients s s' its (Ok u) o o'
+  pub has_begun : (u : Unit {0}) (session : Session) → DiskRun o o'
+      → JoinsBehind clients s s' its (Ok u) o o'
       → session_at s'.state.facts.sessions s.state.facts.begun ≡ Some session
       → HasBegunSession clients contact latency s s' (Ok session) o o'
-  has_begun u session joins found = record {
+  has_begun u session run joins found = record {
     more = its ∷ [];
-    comes = comes_joined clients s s' its (Ok u) o o' joins;
+    comes = comes_joined clients s s' its (Ok u) o o' run joins;
     answer = (
       joins.1.closed,
       refl,
@@ -113,11 +114,11 @@ module _ (clients : Meaning) (contact latency : ℕ) (s s' : StoreValue) (o o' :
   not_begun_now fault.Memory joins = (joins.2, refl)
   not_begun_now fault.DiskFault joins = (joins.1, refl)
 
-  pub not_begun : (e : StoreFault) → JoinsBehind clients s s' its (Err e) o o'
+  pub not_begun : (e : StoreFault) → DiskRun o o' → JoinsBehind clients s s' its (Err e) o o'
       → HasBegunSession clients contact latency s s' (Err e) o o'
-  not_begun e joins = record {
+  not_begun e run joins = record {
     more = [];
-    comes = comes_joined clients s s' its (Err e) o o' joins;
+    comes = comes_joined clients s s' its (Err e) o o' run joins;
     answer = not_begun_now e joins;
   }
 

@@ -11,7 +11,7 @@ use Rattle.sync_store.specs.declared.fault.StoreFault.{StoreFault}
 use Rattle.sync_store.specs.declared.fault.StoreFault.TheVariants as fault
 use Rattle.sync_store.specs.Gathering.{AddsBehind}
 use Rattle.sync_store.specs.Store.{IsStore, NoneWaits, StoreValue}
-use Rattle.sync_store.proofs.Together.{comes_broken, comes_flushed}
+use Rattle.mailbox_core.proofs.Together.{comes_broken, comes_flushed}
 use Rattle.mailbox_core.specs.declared.ends.BoxEnd.{BoxEnd}
 use Rattle.mailbox_core.specs.Files.{box_records}
 use Rattle.mailbox_core.specs.Reading.{HasReadBox, ReadsSo, ReadsSome, ReadsUntilFull}

@@ -1,7 +1,8 @@
 -- One batch that joins those that wait, and a fault that goes on by `?`.
 use Rattle.std.specs.Prelude.{IsErrAnd}
-use Rattle.std.proofs.Common.{◌≡◌, ◌+◌, true, false, Bool, List, sym, ◌∙◌, ap, subst}
-use Rattle.std.proofs.Common.{Result, Ok, Err}
+use Rattle.std.proofs.Common.{◌≡◌, ℕ, ◌+◌, ◌≤◌, true, false, Bool, List, sym, ◌∙◌, ap, subst}
+use Rattle.std.proofs.Common.{Result, Ok, Err, arith}
+use Rattle.outside.specs.Faults.{CountRose}
 use Rattle.entry_codec.specs.Payloads.{payload_len}
 use Rattle.entry_codec.specs.Standing.{room_of}
 use Rattle.sync_rules.specs.declared.entries.Entry.{Entry}
@@ -26,3 +27,12 @@ pub on_error : {A : Type 0} (r : Result A StoreFault) (x : StoreFault)
     (P : Result A StoreFault → Type 0) → IsErrAnd r (λ e. e ≡ x) → P (Err x) → P r
 on_error (Ok a) x P is p = absurd is
 on_error (Err e) x P is p = subst (λ (y : StoreFault). P (Err y)) (sym is) p
+
+-- ---- a flush that failed
+
+pub closed_so : (s new : StoreValue) → new ≡ record s { closed = true } → new.closed ≡ true
+closed_so s new is = ap (λ (v : StoreValue). v.closed) is
+
+-- a count that rose behind one that did not fall
+pub rose_behind : (a b c : ℕ) → a ≤ b → CountRose b c → CountRose a c
+rose_behind a b c later rose = omega (arith, later, rose)

@@ -1,3 +1,4 @@
+pub mod Together
 pub mod Joined
 pub mod Taken
 pub mod Versions

@@ -12,8 +12,8 @@ use Rattle.sync_store.specs.declared.fault.StoreFault.{StoreFault}
 use Rattle.sync_store.specs.declared.fault.StoreFault.TheVariants as fault
 use Rattle.sync_store.specs.Fitting.{ImagesStand}
 use Rattle.sync_store.specs.Store.{StoreValue}
-use Rattle.sync_store.specs.Together.{ComesBehind}
-use Rattle.sync_store.proofs.Together.{comes_none, comes_then}
+use Rattle.mailbox_core.specs.Together.{ComesBehind}
+use Rattle.mailbox_core.proofs.Together.{comes_none, comes_then}
 use Rattle.mailbox_core.specs.declared.ends.BoxEnding.{BoxEnding}
 use Rattle.mailbox_core.specs.declared.ends.BoxEnding.TheVariants as box
 use Rattle.sync_course.specs.Links.{closes}

@@ -1,9 +1,9 @@
 -- Outputs that are committed one after the other, and a file that is made of them.
 use Rattle.std.proofs.Common.{◌≡◌, ℕ, ◌+◌, ◌<◌, ◌≤◌, true, false, cond, List, [], ◌∷◌, ◌++◌, length}
 use Rattle.std.proofs.Common.{refl, sym, ◌∙◌, ap, subst, inl, inr, arith, append_assoc, append-nil}
-use Rattle.std.proofs.Common.{length-append, Option, Some, None, nat_eq, eq-eqb, Ok, Err}
+use Rattle.std.proofs.Common.{length-append, Option, Some, None, nat_eq, eq-eqb, Result, Ok, Err}
 use Rattle.std.proofs.lemmas.Grind.{flat_map-append}
-use Rattle.outside.specs.Outside.{Outside}
+use Rattle.outside.specs.Outside.{DiskRun, Outside}
 use Rattle.record_grammar.specs.Spelling.{spelled, spelling}
 use Rattle.sync_ids.specs.declared.records.Record.{Record}
 use Rattle.sync_ids.specs.declared.records.Record.TheVariants as record_kind
@@ -19,14 +19,16 @@ use Rattle.sync_rules.specs.Legal.{IsDue}
 use Rattle.sync_rules.specs.Output.{first_records, out_records}
 use Rattle.sync_rules.specs.Steps.{IsSettled}
 use Rattle.sync_rules.specs.Hearing.{batch_session}
+use Rattle.sync_rules.proofs.StepKinds.{settled_stays}
 use Rattle.sync_store.specs.declared.fault.StoreFault.{StoreFault}
 use Rattle.sync_store.specs.declared.fault.StoreFault.TheVariants as fault
 use Rattle.sync_store.specs.Commits.{needed}
 use Rattle.sync_store.specs.Fitting.{ImagesStand}
 use Rattle.sync_store.specs.Gathering.{JoinsBehind}
+use Rattle.sync_store.specs.Groups.{IsGathering}
 use Rattle.sync_store.specs.Store.{IsStore, NoneWaits, StoreValue}
-use Rattle.sync_store.specs.Together.{ComesBehind}
-use Rattle.sync_store.proofs.Together.{comes_joined, comes_none, comes_nothing, comes_then}
+use Rattle.mailbox_core.specs.Together.{ComesBehind}
+use Rattle.mailbox_core.proofs.Together.{comes_joined, comes_none, comes_nothing, comes_then}
 use Rattle.mailbox_core.specs.Sending.{AreDue, HasWrittenBox, IsSessionQuiet, SendsAll, SendsSome}
 use Rattle.mailbox_core.specs.Sending.{SendsUntilFull, WritesSo, WritesSome}
 use Rattle.sync_course.specs.LinkTurns.{out_batch}
@@ -35,6 +37,7 @@ use Rattle.mailbox_core.specs.Steps.{BeginsSo, CommitsDue, HasBegunSession, HasP
 use Rattle.mailbox_core.specs.Steps.{HasPutBox, IsOpenFor, PutsAllSo, PutsBoxSo, PutsSo}
 use Rattle.mailbox_core.specs.Taking.{BeginsThen, first_batch}
 use Rattle.mailbox_core.proofs.Joined.{needed_stays}
+use Rattle.mailbox_core.proofs.Taken.{still_able}
 
 abbrev Batches : Type 0
 Batches = List (List Entry)
@@ -99,12 +102,13 @@ module _ (clients : Meaning) (session now : ℕ) (s s' : StoreValue) (to to' : L
   pub put_made : (u : Unit {0}) (what : Out) → IsDue clients s.state.facts
       (session_at s.state.facts.sessions session)
       now what
-      → to' ≡ to ++ spelled (out_records s.state.facts.held what) → JoinsBehind clients s s'
+      → to' ≡ to ++ spelled (out_records s.state.facts.held what) → DiskRun o o'
+      → JoinsBehind clients s s'
       (out_batch session now what) (Ok u) o o'
       → HasPut clients session now s s' to to' (Ok true) o o'
-  put_made u what due bytes joins = record {
+  put_made u what due bytes run joins = record {
     more = out_batch session now what ∷ [];
-    comes = comes_joined clients s s' (out_batch session now what) (Ok u) o o' joins;
+    comes = comes_joined clients s s' (out_batch session now what) (Ok u) o o' run joins;
     answer = (
       joins.1.closed,
       record { what = what; due = due; is = refl },
@@ -139,11 +143,11 @@ module _ (clients : Meaning) (session now : ℕ) (s s' : StoreValue) (to to' : L
 
   pub put_failed : (e : StoreFault) (what : Out) → IsSettled clients s.state.facts
       → IsDue clients s.state.facts (session_at s.state.facts.sessions session) now what
-      → JoinsBehind clients s s' (out_batch session now what) (Err e) o o'
+      → DiskRun o o' → JoinsBehind clients s s' (out_batch session now what) (Err e) o o'
       → HasPut clients session now s s' to to' (Err e) o o'
-  put_failed e what settled due joins = record {
+  put_failed e what settled due run joins = record {
     more = [];
-    comes = comes_joined clients s s' (out_batch session now what) (Err e) o o' joins;
+    comes = comes_joined clients s s' (out_batch session now what) (Err e) o o' run joins;
     answer = put_failed_so e what settled due joins;
   }
 
@@ -174,6 +178,18 @@ module _ (images : ImagesStand) (clients : Meaning) (session : Session) (now : �
     comes = comes_none clients images s o able.gathering.still_open;
     answer = (able.gathering.still_open, refl);
   }
+
+-- the session goes on behind an output
+pub able_put : (clients : Meaning) (session : Session) (now : ℕ) (s s' : StoreValue) (o o' : Outside)
+    (u : Unit {0}) (what : Out) → IsOpenFor clients session s o → DiskRun o o'
+    → JoinsBehind clients s s' (out_batch session.number now what) (Ok u) o o'
+    → (s'.closed ≡ false → IsGathering clients s' o'.files) → IsOpenFor clients session s' o'
+able_put clients session now s s' o o' u what able run joins gathering =
+    let its : List Entry = out_batch session.number now what in
+    still_able clients session s s' o o' (its ∷ []) able
+    (comes_joined clients s s' its (Ok u) o o' run joins) joins.1.closed gathering
+    (subst (IsSettled clients) (sym joins.1.facts)
+    (settled_stays clients s.state.facts its refl able.settled))
 
 -- ---- one output after the other
 

@@ -3,7 +3,7 @@ use Rattle.std.proofs.Common.{◌≡◌, ℕ, ◌+◌, true, false, cond, List, 
 use Rattle.std.proofs.Common.{refl, sym, ◌∙◌, ap, subst, inl, inr, arith, append_assoc, append-nil}
 use Rattle.std.proofs.Common.{Some, is_some, Result, Ok, Err, eq-eqb}
 use Rattle.std.specs.Prelude.{OnOk}
-use Rattle.outside.specs.Outside.{Outside}
+use Rattle.outside.specs.Outside.{DiskRun, Outside}
 use Rattle.sync_ids.specs.Records.{IsRecord}
 use Rattle.sync_ids.specs.declared.records.Record.{Record}
 use Rattle.session_core.specs.Taking.{take_of}
@@ -28,8 +28,8 @@ use Rattle.sync_store.specs.Gathering.{JoinsBehind, SettlesBehind}
 use Rattle.sync_store.specs.Groups.{IsGathering}
 use Rattle.sync_store.specs.Settling.{SettlesSo}
 use Rattle.sync_store.specs.Store.{StoreValue}
-use Rattle.sync_store.specs.Together.{ComesBehind}
-use Rattle.sync_store.proofs.Together.{comes_joined, comes_none, comes_steps, comes_then, steps_answer}
+use Rattle.mailbox_core.specs.Together.{ComesBehind}
+use Rattle.mailbox_core.proofs.Together.{comes_joined, comes_none, comes_steps, comes_then, steps_answer}
 use Rattle.mailbox_core.specs.Steps.{HasTakenRecord, IsAt, IsOpenFor, TakesSo, next_on}
 use Rattle.mailbox_core.specs.Taking.{SomeTaken, TakesRecord, TakesTo}
 use Rattle.mailbox_core.proofs.Joined.{needed_stays}
@@ -111,23 +111,23 @@ module _ (clients : Meaning) (session k : ℕ) (r : Record) (s s1 : StoreValue) 
   not_taken_so fault.DiskFault o o1 settled joins = (joins.1, inl refl)
 
   not_taken_by : (e : StoreFault) (o o1 : Outside) → IsSettled clients s.state.facts
-      → JoinsBehind clients s s1 batch (Err e) o o1
+      → DiskRun o o1 → JoinsBehind clients s s1 batch (Err e) o o1
       → HasTakenRecord clients session r s s1 (Err e) o o1
-  not_taken_by e o o1 settled joins = record {
+  not_taken_by e o o1 settled run joins = record {
     more = [];
-    comes = comes_joined clients s s1 batch (Err e) o o1 joins;
+    comes = comes_joined clients s s1 batch (Err e) o o1 run joins;
     answer = not_taken_so e o o1 settled joins;
   }
 
   module _ (s' : StoreValue) (u : Unit {0}) (result : Result (Unit {0}) StoreFault)
-      (o o1 o' : Outside) (joins : JoinsBehind clients s s1 batch (Ok u) o o1)
-      (gathering : IsGathering clients s1 o1.files)
+      (o o1 o' : Outside) (run : DiskRun o o1) (joins : JoinsBehind clients s s1 batch (Ok u) o o1)
+      (gathering : IsGathering clients s1 o1.files) (run' : DiskRun o1 o')
       (steps : SettlesBehind clients s1 s' result o1 o') where
     comes_taken : ComesBehind clients s s' o o' (batch ∷ steps.more)
     comes_taken =
         comes_then clients s s1 s' o o1 o' (batch ∷ []) steps.more joins.1.closed
-        (comes_joined clients s s1 batch (Ok u) o o1 joins)
-        (comes_steps clients s1 s' result o1 o' gathering steps)
+        (comes_joined clients s s1 batch (Ok u) o o1 run joins)
+        (comes_steps clients s1 s' result o1 o' run' gathering steps)
 
     one : TakesRecord clients s.state.facts session (next_on s session) r (batch ∷ steps.more)
     one = record {
@@ -190,21 +190,22 @@ module _ (clients : Meaning) (session : Session) (k : ℕ) (r : Record) (s s1 : 
     (batch : List Entry) (o o1 : Outside) (able : IsOpenFor clients session s o)
     (numbered : k ≡ next_on s session.number) (is : batch ≡ take_of s.state.facts session k r) where
   -- its batch did not join those that wait
-  pub not_taken : (e : StoreFault) → JoinsBehind clients s s1 batch (Err e) o o1
+  pub not_taken : (e : StoreFault) → DiskRun o o1 → JoinsBehind clients s s1 batch (Err e) o o1
       → HasTakenRecord clients session.number r s s1 (Err e) o o1
-  not_taken e joins =
+  not_taken e run joins =
       not_taken_by clients session.number k r s s1 batch numbered
-      (is ∙ next_is s.state.facts session k r able.found) e o o1 able.settled joins
+      (is ∙ next_is s.state.facts session k r able.found) e o o1 able.settled run joins
 
   -- it joined them, and its settling behind it
   pub has_taken : (s' : StoreValue) (u : Unit {0}) (result : Result (Unit {0}) StoreFault)
-      (o' : Outside) → JoinsBehind clients s s1 batch (Ok u) o o1 → IsGathering clients s1 o1.files
-      → Allowed clients s.state.facts batch → SettlesBehind clients s1 s' result o1 o'
+      (o' : Outside) → DiskRun o o1 → JoinsBehind clients s s1 batch (Ok u) o o1
+      → IsGathering clients s1 o1.files → Allowed clients s.state.facts batch → DiskRun o1 o'
+      → SettlesBehind clients s1 s' result o1 o'
       → HasTakenRecord clients session.number r s s' result o o'
-  has_taken s' u result o' joins gathering allowed steps =
+  has_taken s' u result o' run joins gathering allowed run' steps =
       taken_by clients session.number k r s s1 batch numbered
-      (is ∙ next_is s.state.facts session k r able.found) s' u result o o1 o' joins gathering steps
-      allowed
+      (is ∙ next_is s.state.facts session k r able.found) s' u result o o1 o' run joins gathering
+      run' steps allowed
 
 -- the session goes on behind batches
 pub found_later : (f g : Facts) (more : List (List Entry)) (session : Session)

@@ -13,7 +13,7 @@ use Rattle.sync_store.specs.Store.{StoreValue}
 use Rattle.mailbox_laws.specs.Boxes.{box_session}
 use Rattle.mailbox_core.specs.declared.ends.BoxEnd.{BoxEnd}
 use Rattle.mailbox_core.specs.Files.{box_ending, box_records}
-use Rattle.sync_store.specs.Together.{ComesInGroups}
+use Rattle.mailbox_core.specs.Together.{ComesInGroups}
 use Rattle.mailbox_core.specs.Taking.{AllTaken, BeginsThen, NoRoomFor, SomeTaken, TakesTo}
 use Rattle.mailbox_core.specs.Taking.{first_batch}
 

@@ -19,7 +19,7 @@ use Rattle.sync_store.specs.declared.fault.StoreFault.{StoreFault}
 use Rattle.sync_store.specs.declared.fault.StoreFault.TheVariants as fault
 use Rattle.sync_store.specs.Commits.{needed}
 use Rattle.sync_store.specs.Store.{StoreValue}
-use Rattle.sync_store.specs.Together.{ComesInGroups}
+use Rattle.mailbox_core.specs.Together.{ComesInGroups}
 use Rattle.mailbox_core.specs.Taking.{BeginsThen, first_batch}
 
 -- ---- outputs

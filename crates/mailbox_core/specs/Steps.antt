@@ -21,7 +21,7 @@ use Rattle.sync_store.specs.declared.fault.StoreFault.TheVariants as fault
 use Rattle.sync_store.specs.Commits.{needed}
 use Rattle.sync_store.specs.Groups.{IsGathering}
 use Rattle.sync_store.specs.Store.{StoreValue}
-use Rattle.sync_store.specs.Together.{ComesInGroups, ComesBehind}
+use Rattle.mailbox_core.specs.Together.{ComesInGroups, ComesBehind}
 use Rattle.sync_course.specs.LinkTurns.{out_batch}
 use Rattle.mailbox_core.specs.declared.ends.BoxEnd.{BoxEnd}
 use Rattle.mailbox_core.specs.declared.ends.BoxEnding.{BoxEnding}

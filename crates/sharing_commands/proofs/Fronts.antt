@@ -3,19 +3,17 @@ use Rattle.std.proofs.Common.{◌≡◌, ℕ, ◌+◌, true, false, List, [], �
 use Rattle.std.proofs.Common.{◌∙◌}
 use Rattle.std.proofs.Common.{subst, append_assoc, arith, Result, Ok, Err}
 use Rattle.std.specs.Prelude.{IsErrAnd}
-use Rattle.outside.specs.Outside.{Outside}
+use Rattle.outside.specs.Outside.{DiskRun, Outside}
 use Rattle.outside.specs.Runs.{IsFront}
 use Rattle.sync_rules.specs.declared.entries.Entry.{Entry}
 use Rattle.sync_rules.specs.Clients.{Meaning}
-use Rattle.sync_rules.specs.Facts.{Facts, after_all, after_batches}
-use Rattle.entry_codec.specs.Payloads.{payload_len}
-use Rattle.entry_codec.specs.Standing.{room_of}
+use Rattle.sync_rules.specs.Facts.{Facts, after_batches}
 use Rattle.sync_store.specs.declared.fault.StoreFault.TheVariants as fault
-use Rattle.sync_store.specs.Commits.{needed}
 use Rattle.sync_store.specs.Fitting.{ImagesStand}
-use Rattle.sync_store.specs.Gathering.{JoinsBehind, KeepsBatches}
-use Rattle.sync_store.specs.Store.{StoreValue, format_meant}
-use Rattle.sync_store.proofs.Together.{comes_joined, comes_none, comes_then}
+use Rattle.sync_store.specs.Gathering.{JoinsBehind}
+use Rattle.sync_store.specs.Store.{StoreValue}
+use Rattle.mailbox_core.proofs.Joined.{needed_stays}
+use Rattle.mailbox_core.proofs.Together.{comes_joined, comes_none, comes_then}
 use Rattle.sync_words.specs.declared.outcome.Outcome.{Outcome}
 use Rattle.sync_words.specs.declared.outcome.Outcome.TheVariants as outcome
 use Rattle.sharing_commands.specs.Adding.{AddsSo, GathersFront, LacksRoomForTarget}
@@ -43,49 +41,43 @@ none_added images clients s o all still = record {
 
 -- ---- one
 
-needed_kept : (s s' : StoreValue) (batch : List Entry) → KeepsBatches s s'
-    → needed s' batch ≡ needed s batch
-needed_kept s s' batch same = λ i.
-    same.end i + 5 + payload_len (format_meant (same.format i)) batch
-    + room_of (format_meant (same.format i)) (after_all (same.facts i) batch)
-
 module _ (clients : Meaning) (s s' : StoreValue) (o o' : Outside) (batch : List Entry) where
-  pub one_added : (u : Unit {0}) → JoinsBehind clients s s' batch (Ok u) o o'
+  pub one_added : (u : Unit {0}) → DiskRun o o' → JoinsBehind clients s s' batch (Ok u) o o'
       → GathersFront clients s s' o o' (batch ∷ []) (Ok u)
-  one_added u joins = record {
+  one_added u run joins = record {
     front = batch ∷ [];
-    comes = comes_joined clients s s' batch (Ok u) o o' joins;
+    comes = comes_joined clients s s' batch (Ok u) o o' run joins;
     answer = (joins.1.closed, refl);
   }
 
-  pub one_broken : JoinsBehind clients s s' batch (Err fault.DiskFault) o o'
+  pub one_broken : DiskRun o o' → JoinsBehind clients s s' batch (Err fault.DiskFault) o o'
       → GathersFront clients s s' o o' (batch ∷ []) (Err outcome.DiskFault)
-  one_broken joins = record {
+  one_broken run joins = record {
     front = [];
-    comes = comes_joined clients s s' batch (Err fault.DiskFault) o o' joins;
+    comes = comes_joined clients s s' batch (Err fault.DiskFault) o o' run joins;
     answer = (joins.1, record { rest = batch ∷ []; whole = refl });
   }
 
-  pub one_left : JoinsBehind clients s s' batch (Err fault.Memory) o o'
+  pub one_left : DiskRun o o' → JoinsBehind clients s s' batch (Err fault.Memory) o o'
       → GathersFront clients s s' o o' (batch ∷ []) (Err outcome.Memory)
-  one_left joins = record {
+  one_left run joins = record {
     front = [];
-    comes = comes_joined clients s s' batch (Err fault.Memory) o o' joins;
+    comes = comes_joined clients s s' batch (Err fault.Memory) o o' run joins;
     answer = (joins.2, record { rest = batch ∷ []; whole = refl });
   }
 
-  pub one_refused : JoinsBehind clients s s' batch (Err fault.Full) o o'
+  pub one_refused : DiskRun o o' → JoinsBehind clients s s' batch (Err fault.Full) o o'
       → GathersFront clients s s' o o' (batch ∷ []) (Err outcome.Full)
-  one_refused joins = record {
+  one_refused run joins = record {
     front = [];
-    comes = comes_joined clients s s' batch (Err fault.Full) o o' joins;
+    comes = comes_joined clients s s' batch (Err fault.Full) o o' run joins;
     answer = (
       joins.2,
       record {
         next = batch;
         rest = [];
         parts = refl;
-        over = omega (arith, needed_kept s s' batch joins.1, joins.1.limit, joins.0);
+        over = omega (arith, needed_stays s s' batch joins.1, joins.1.limit, joins.0);
       },
     );
   }

@@ -1,5 +1,5 @@
 -- A settled store that knows a contact still does, behind batches that leave it settled.
-use Rattle.std.proofs.Common.{◌≡◌, ℕ, ◌<◌, Bool, true, false, List, [], ◌∷◌, ◌++◌, sym, ap, ◌∙◌, subst}
+use Rattle.std.proofs.Common.{◌≡◌, ℕ, ◌<◌, ◌≤◌, true, false, List, [], ◌∷◌, ◌++◌, sym, ap, ◌∙◌, subst}
 use Rattle.std.proofs.Common.{arith, Result, Ok, Err}
 use Rattle.std.specs.Prelude.{IsErrAnd}
 use Rattle.outside.specs.Outside.{Outside}
@@ -13,9 +13,10 @@ use Rattle.sync_store.specs.Gathering.{AddsBehind}
 use Rattle.sync_store.specs.Groups.{IsGathering}
 use Rattle.sync_store.specs.Ready.{IsReady}
 use Rattle.sync_store.specs.Store.{IsStore, StoreValue, written_in}
-use Rattle.sync_store.specs.Together.{ComesInGroups}
+use Rattle.mailbox_core.specs.Together.{ComesInGroups}
 use Rattle.sync_store.proofs.Gathered.{gathering_none}
-use Rattle.sync_store.proofs.Together.{comes_broken, comes_flushed}
+use Rattle.mailbox_core.proofs.Joined.{true≢false}
+use Rattle.mailbox_core.proofs.Together.{comes_broken, comes_flushed}
 use Rattle.sync_words.specs.declared.outcome.Outcome.{Outcome}
 use Rattle.sync_words.specs.declared.outcome.Outcome.TheVariants as outcome
 use Rattle.sync_words.specs.Outcomes.{came_to}
@@ -85,9 +86,6 @@ known_on (Err e) x is clients s o contact stays =
 
 -- ---- all that waits is added
 
-true≢false : {P : Type 0} (b : Bool) → b ≡ true → b ≡ false → P
-true≢false b is not = absurd (let e : true ≡ false = sym is ∙ not in cc)
-
 abbrev flushed : StoreValue → StoreValue
 flushed s = record s { waiting = 0 ∷ [] }
 
@@ -149,6 +147,15 @@ module _ (clients : Meaning) (s s1 : StoreValue) (o o1 : Outside) (contact : ℕ
       adds = in_groups;
       answer = (closed, front_of s1 all has.front r has.answer);
     }
+
+-- the causes, behind calls after which no count fell
+pub by_then : (o o1 o2 : Outside) (r : Result (Unit {0}) Outcome) → ExtendsBy o o1 r
+    → o1.disk_faults ≤ o2.disk_faults → ExtendsBy o o2 r
+by_then o o1 o2 (Ok u) by later = tt
+by_then o o1 o2 (Err outcome.Full) by later = tt
+by_then o o1 o2 (Err outcome.Memory) by later = tt
+by_then o o1 o2 (Err outcome.DiskFault) by later = omega (arith, by, later)
+by_then o o1 o2 (Err _) by later = absurd by
 
 -- a store that is not closed gathers
 pub gathers_open : (clients : Meaning) (s : StoreValue) (o : Outside) (contact : ℕ)

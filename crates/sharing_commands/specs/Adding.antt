@@ -9,7 +9,7 @@ use Rattle.sync_store.specs.Commits.{needed}
 use Rattle.sync_store.specs.Groups.{IsGathering}
 use Rattle.sync_store.specs.Ready.{IsReady}
 use Rattle.sync_store.specs.Store.{IsStore, StoreValue}
-use Rattle.sync_store.specs.Together.{ComesBehind, ComesInGroups}
+use Rattle.mailbox_core.specs.Together.{ComesBehind, ComesInGroups}
 use Rattle.sync_words.specs.declared.outcome.Outcome.{Outcome}
 use Rattle.sync_words.specs.declared.outcome.Outcome.TheVariants as outcome
 

@@ -21,4 +21,3 @@ mod MigrateSteps
 mod BriefFacts
 mod CompactSteps
 pub mod Runs
-pub mod Together

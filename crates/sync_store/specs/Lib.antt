@@ -18,4 +18,3 @@ pub mod Refusals
 pub mod Loading
 pub mod Asking
 pub mod Cited
-pub mod Together

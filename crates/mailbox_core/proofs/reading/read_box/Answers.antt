@@ -1,15 +1,15 @@
 use Rattle.std.proofs.Common.{◌≡◌, false, Ok, Err, sym, ap, ◌∙◌}
 use Rattle.sync_store.specs.declared.fault.StoreFault.TheVariants as fault
-use Rattle.sync_store.specs.Store.{StoreValue}
 use Rattle.sync_store.proofs.Behind.{flush_behind}
 use Rattle.sync_store.proofs.Gathered.{gathering_none}
+use Rattle.sync_store.proofs.Runs.{rose_still}
 use Rattle.mailbox_core.specs.Reading.{HasReadBox}
 use Rattle.mailbox_core.proofs.Flushed.{read_broken, read_closed, read_flushed}
-use Rattle.mailbox_core.proofs.Joined.{on_error, true≢false}
+use Rattle.mailbox_core.proofs.Joined.{closed_so, on_error, rose_behind}
 use Rattle.mailbox_core.proofs.reading.read_box.Goals as goal
 
-pub gather_box-requires-clause-gathering : goal.gather_box-requires-clause-gathering
-gather_box-requires-clause-gathering g c =
+pub gather_box-read-requires-clause-gathering : goal.gather_box-read-requires-clause-gathering
+gather_box-read-requires-clause-gathering g c =
     let still : c.args.store.now.closed ≡ false =
     sym c.is_closed.ensures.closed ∙ c.if-is_closed.false in
     gathering_none (g.C.Clients.meaning c.args.clients.now) c.args.store.now
@@ -48,7 +48,7 @@ returns-in_err-flush-clause-read g c still =
     (c.requires.ready still).none_waits s1 o1 c.gather_box-read.result
     c.gather_box-read.ensures.read s2 o2
     (sym c.is_closed-2.ensures.closed ∙ c.if-is_closed-2.false)
-    (ap (λ (v : StoreValue). v.closed) f.err.1)
+    (closed_so s1 s2 f.err.1)
     (flush_behind clients s1 s2 (Err e) o1 o2 tt f.err c.flush.ensures.run f.calls
     c.flush.ensures.appends c.flush.ensures.adds))
 
@@ -68,3 +68,17 @@ returns-clause-read g c still =
     (sym c.is_closed-2.ensures.closed ∙ c.if-is_closed-2.false) f.ok
     (flush_behind clients s1 s2 (Ok tt) o1 o2 f.ok tt c.flush.ensures.run f.calls
     c.flush.ensures.appends c.flush.ensures.adds)
+
+pub returns-in_err-flush-clause-fault : goal.returns-in_err-flush-clause-fault
+returns-in_err-flush-clause-fault g c is =
+    rose_behind (g.D.Disk.tells c.args.disk.now).disk_faults
+    (g.D.Disk.tells c.gather_box-read.new.disk).disk_faults
+    (g.D.Disk.tells c.flush.new.disk).disk_faults c.gather_box-read.ensures.read.comes.run.later
+    c.in_err-flush.ensures.fault.failed
+
+pub returns-clause-fault : goal.returns-clause-fault
+returns-clause-fault g c is =
+    rose_still (g.D.Disk.tells c.args.disk.now).disk_faults
+    (g.D.Disk.tells c.gather_box-read.new.disk).disk_faults
+    (g.D.Disk.tells c.flush.new.disk).disk_faults (c.gather_box-read.ensures.fault is)
+    c.flush.ensures.run.later

@@ -30,7 +30,13 @@ returns-in_err-gather_known-clause-taken g c =
     c.from_residual-in_err-gather_known.ensures.1
     (not_taken clients c.args.session.now c.takes-k.result c.args.rec s s1 c.in_ok-batch.batch o o1
     c.requires.able numbered c.in_ok-batch.ensures.batch c.in_err-gather_known.field-0.0
-    c.in_err-gather_known.ensures.joins)
+    c.gather_known.ensures.run c.in_err-gather_known.ensures.joins)
+
+pub gather_settling-requires : goal.gather_settling-requires
+gather_settling-requires g c = record {
+  gathering =
+      c.gather_known.ensures.gathering c.in_ok-gather_known.ensures.joins.1.closed;
+}
 
 pub returns-clause-taken : goal.returns-clause-taken
 returns-clause-taken g c =
@@ -43,11 +49,12 @@ returns-clause-taken g c =
     has_taken clients c.args.session.now c.takes-k.result c.args.rec s c.gather_known.new.self
     c.in_ok-batch.batch o o1 c.requires.able numbered c.in_ok-batch.ensures.batch
     c.gather_settling.new.self tt c.gather_settling.result
-    (g.D.Disk.tells c.gather_settling.new.disk) c.in_ok-gather_known.ensures.joins
+    (g.D.Disk.tells c.gather_settling.new.disk) c.gather_known.ensures.run
+    c.in_ok-gather_known.ensures.joins
     (c.gather_known.ensures.gathering c.in_ok-gather_known.ensures.joins.1.closed)
     (take_may clients c.args.session.now c.takes-k.result c.args.rec s o c.in_ok-batch.batch
     c.requires.able c.records_are_within.ensures numbered c.in_ok-batch.ensures.batch)
-    c.gather_settling.ensures.settles
+    c.gather_settling.ensures.run c.gather_settling.ensures.settles
 
 pub returns-clause-able : goal.returns-clause-able
 returns-clause-able g c =

@@ -1,15 +1,15 @@
 use Rattle.std.proofs.Common.{◌≡◌, false, Ok, Err, sym, ap, ◌∙◌}
 use Rattle.sync_store.specs.declared.fault.StoreFault.TheVariants as fault
-use Rattle.sync_store.specs.Store.{StoreValue}
 use Rattle.sync_store.proofs.Behind.{flush_behind}
 use Rattle.sync_store.proofs.Gathered.{gathering_none}
+use Rattle.sync_store.proofs.Runs.{rose_still}
 use Rattle.mailbox_core.specs.Steps.{HasAddedBox}
 use Rattle.mailbox_core.proofs.Flushed.{put_broken, put_closed, put_flushed}
-use Rattle.mailbox_core.proofs.Joined.{on_error}
+use Rattle.mailbox_core.proofs.Joined.{closed_so, on_error, rose_behind}
 use Rattle.mailbox_core.proofs.writing.put_added.Goals as goal
 
-pub put_box-requires-clause-gathering : goal.put_box-requires-clause-gathering
-put_box-requires-clause-gathering g c =
+pub put_box-made-requires-clause-gathering : goal.put_box-made-requires-clause-gathering
+put_box-made-requires-clause-gathering g c =
     gathering_none (g.C.Clients.meaning c.args.clients.now) c.args.store.now
     (g.D.Disk.tells c.args.disk.now).files c.requires.is_store c.requires.ready
 
@@ -46,7 +46,7 @@ returns-in_err-flush-clause-put g c =
     c.requires.is_store c.requires.ready.still_open c.requires.ready.none_waits s1 o1 to
     c.put_box-made.result c.put_box-made.ensures.put s2 o2
     (sym c.is_closed.ensures.closed ∙ c.if-is_closed.false)
-    (ap (λ (v : StoreValue). v.closed) f.err.1)
+    (closed_so s1 s2 f.err.1)
     (flush_behind clients s1 s2 (Err e) o1 o2 tt f.err c.flush.ensures.run f.calls
     c.flush.ensures.appends c.flush.ensures.adds))
 
@@ -66,3 +66,17 @@ returns-clause-put g c =
     (sym c.is_closed.ensures.closed ∙ c.if-is_closed.false) f.ok
     (flush_behind clients s1 s2 (Ok tt) o1 o2 f.ok tt c.flush.ensures.run f.calls
     c.flush.ensures.appends c.flush.ensures.adds)
+
+pub returns-in_err-flush-clause-fault : goal.returns-in_err-flush-clause-fault
+returns-in_err-flush-clause-fault g c is =
+    rose_behind (g.D.Disk.tells c.args.disk.now).disk_faults
+    (g.D.Disk.tells c.put_box-made.new.disk).disk_faults
+    (g.D.Disk.tells c.flush.new.disk).disk_faults c.put_box-made.ensures.put.comes.run.later
+    c.in_err-flush.ensures.fault.failed
+
+pub returns-clause-fault : goal.returns-clause-fault
+returns-clause-fault g c is =
+    rose_still (g.D.Disk.tells c.args.disk.now).disk_faults
+    (g.D.Disk.tells c.put_box-made.new.disk).disk_faults
+    (g.D.Disk.tells c.flush.new.disk).disk_faults (c.put_box-made.ensures.fault is)
+    c.flush.ensures.run.later

@@ -1,7 +1,8 @@
 use Rattle.std.proofs.Common.{◌≡◌, true, false, Ok, Err, sym, ap, ◌∙◌}
 use Rattle.sync_store.specs.Store.{StoreValue}
 use Rattle.sync_store.proofs.Behind.{flush_behind}
-use Rattle.sharing_commands.proofs.Standing.{front_broken, front_closed, front_flushed, gathers_for}
+use Rattle.mailbox_core.proofs.Joined.{closed_so, rose_behind}
+use Rattle.sharing_commands.proofs.Standing.{by_then, front_broken, front_closed, front_flushed, gathers_for}
 use Rattle.sharing_commands.proofs.Standing.{gathers_open, known_closed, known_flushed}
 use Rattle.sharing_commands.proofs.agreeing.add_agreed.Goals as goal
 
@@ -61,7 +62,7 @@ returns-in-Err-clause-adds g c =
     c.gather_agreed-gathered.result c.requires.stands c.gather_agreed-gathered.ensures.adds s2 o2
     (sym c.is_closed.ensures.closed ∙ c.if-is_closed.false)
     (flush_behind clients s1 s2 (Err _) o1 o2 tt f.err f.run f.calls f.appends f.adds)
-    (ap (λ (v : StoreValue). v.closed) f.err.1)
+    (closed_so s1 s2 f.err.1)
 
 pub returns-in-Ok-clause-stands : goal.returns-in-Ok-clause-stands
 returns-in-Ok-clause-stands g c =
@@ -74,3 +75,16 @@ returns-in-Ok-clause-stands g c =
     (f.ready
     (ap (λ (v : StoreValue). v.closed) f.ok ∙ sym c.is_closed.ensures.closed
     ∙ c.if-is_closed.false)) f.numbers
+
+pub returns-in-Ok-clause-by : goal.returns-in-Ok-clause-by
+returns-in-Ok-clause-by g c =
+    by_then (g.D.Disk.tells c.args.disk.now) (g.D.Disk.tells c.gather_agreed-gathered.new.disk)
+    (g.D.Disk.tells c.flush.new.disk) c.gather_agreed-gathered.result
+    c.gather_agreed-gathered.ensures.by c.in-Ok.ensures.run.later
+
+pub returns-in-Err-clause-by : goal.returns-in-Err-clause-by
+returns-in-Err-clause-by g c =
+    rose_behind (g.D.Disk.tells c.args.disk.now).disk_faults
+    (g.D.Disk.tells c.gather_agreed-gathered.new.disk).disk_faults
+    (g.D.Disk.tells c.flush.new.disk).disk_faults
+    c.gather_agreed-gathered.ensures.adds.comes.run.later c.in-Err.ensures.fault.failed

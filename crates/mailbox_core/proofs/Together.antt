@@ -6,10 +6,11 @@ use Rattle.std.proofs.Common.{length-append, Result, Ok, Err}
 use Rattle.std.proofs.lemmas.Bool.{false≢true}
 use Rattle.std.proofs.lemmas.Grind.{flat_map-append}
 use Rattle.std.specs.List.{flat_map}
+use Rattle.frame_journal.specs.Group.{IsJoined}
 use Rattle.outside.specs.Files.{Two, File}
 use Rattle.outside.specs.Frames.{frame_of}
-use Rattle.outside.specs.Outside.{Outside}
-use Rattle.outside.proofs.CallSteps.{told_on}
+use Rattle.outside.specs.Outside.{DiskRun, Outside}
+use Rattle.outside.proofs.CallSteps.{run_none, run_then, told_on}
 use Rattle.sync_rules.specs.declared.entries.Entry.{Entry}
 use Rattle.sync_rules.specs.declared.entries.Entry.TheVariants as entry
 use Rattle.sync_rules.specs.Allows.{is_settling_kind}
@@ -21,7 +22,7 @@ use Rattle.sync_rules.proofs.Continuing.{facts-append}
 use Rattle.sync_rules.proofs.Settling.{after_batches-append}
 use Rattle.sync_rules.proofs.StepLaws.{next_is_settling}
 use Rattle.entry_codec.specs.declared.naming.Format.{Format}
-use Rattle.entry_codec.specs.Payloads.{journal_end, payload_len, payloads}
+use Rattle.entry_codec.specs.Payloads.{journal_end, payload, payload_len, payloads}
 use Rattle.entry_codec.specs.Standing.{room_of}
 use Rattle.sync_store.specs.declared.fault.StoreFault.{StoreFault}
 use Rattle.sync_store.specs.declared.fault.StoreFault.TheVariants as fault
@@ -33,18 +34,31 @@ use Rattle.sync_store.specs.Groups.{HasGathered, IsGathering}
 use Rattle.sync_store.specs.Rooms.{AreRoomy, needed_in}
 use Rattle.sync_store.specs.Settling.{SettlesSo}
 use Rattle.sync_store.specs.Store.{IsStore, NoneWaits, StoreValue, format_meant, written_in}
-use Rattle.sync_store.specs.Together.{ComesBehind, ComesInGroups, FindRoom, joined_by}
+use Rattle.mailbox_core.specs.Together.{ComesBehind, ComesInGroups, FindRoom, joined_by}
 use Rattle.sync_store.proofs.Behind.{added_all, adds_format, adds_limit, behind_adds, behind_format}
 use Rattle.sync_store.proofs.Behind.{behind_limit, behind_none, behind_then}
-use Rattle.sync_store.proofs.FitSteps.{true≢false}
 use Rattle.sync_store.proofs.Gathered.{gathered_none, stays_itself}
-use Rattle.sync_store.proofs.GroupSteps.{joined_len, payloads_append}
 use Rattle.sync_store.proofs.Runs.{runs_nothing}
 
 abbrev Batches : Type 0
 Batches = List (List Entry)
 
+true≢false : {P : Type 0} (b : Bool) → b ≡ true → b ≡ false → P
+true≢false b is not = absurd (let e : true ≡ false = sym is ∙ not in cc)
+
 -- ---- the journal with those that wait
+
+payloads_append : (format : Format) (f : Facts) (xs ys : Batches)
+    → payloads format f (xs ++ ys) ≡ payloads format f xs ++ payloads format (after_batches f xs) ys
+payloads_append format f [] ys = refl
+payloads_append format f (b ∷ bs) ys =
+    ap (λ (ps : List (List ℕ)). payload format f b ∷ ps)
+    (payloads_append format (after_all f b) bs ys)
+
+joined_len : (ps : List (List ℕ)) (waiting : List ℕ) → IsJoined ps waiting
+    → length waiting ≡ length (flat_map frame_of ps) + 1
+joined_len ps waiting joined =
+    omega (arith, ap length joined.spelled, length-append (flat_map frame_of ps) (0 ∷ []))
 
 -- the end of the frames with further ones
 end_with : (format : Format) (j more : Batches)
@@ -154,6 +168,7 @@ module _ (clients : Meaning) where
   pub comes_none : ImagesStand → (s : StoreValue) (o : Outside) → s.closed ≡ false
       → ComesBehind clients s s o o []
   comes_none images s o still = record {
+    run = run_none o;
     facts = λ opened. refl;
     format = refl;
     limit = refl;
@@ -162,10 +177,11 @@ module _ (clients : Meaning) where
     broken = λ closed. true≢false s.closed closed still;
   }
 
-  stayed : (s s' : StoreValue) (o o' : Outside) → KeepsBatches s s'
+  stayed : (s s' : StoreValue) (o o' : Outside) → DiskRun o o' → KeepsBatches s s'
       → (s'.closed ≡ false → GathersBehind clients s s' o o' [])
       → (s'.closed ≡ true → AddsBehind clients s s' o o' []) → ComesBehind clients s s' o o' []
-  stayed s s' o o' same waits broken = record {
+  stayed s s' o o' run same waits broken = record {
+    run = run;
     facts = λ opened. same.facts;
     format = same.format;
     limit = same.limit;
@@ -176,9 +192,10 @@ module _ (clients : Meaning) where
 
   -- a call that gathers one batch
   pub comes_joined : (s s' : StoreValue) (batch : List Entry) (result : Result (Unit {0}) StoreFault)
-      (o o' : Outside) → JoinsBehind clients s s' batch result o o'
+      (o o' : Outside) → DiskRun o o' → JoinsBehind clients s s' batch result o o'
       → ComesBehind clients s s' o o' (joined_by batch result)
-  comes_joined s s' batch (Ok u) o o' joins = record {
+  comes_joined s s' batch (Ok u) o o' run joins = record {
+    run = run;
     facts = λ opened. joins.1.facts;
     format = joins.1.format;
     limit = joins.1.limit;
@@ -186,15 +203,15 @@ module _ (clients : Meaning) where
     waits = λ opened. joins.2;
     broken = λ closed. true≢false s'.closed closed joins.1.closed;
   }
-  comes_joined s s' batch (Err fault.Full) o o' joins =
-      stayed s s' o o' joins.1 (λ opened. joins.3)
+  comes_joined s s' batch (Err fault.Full) o o' run joins =
+      stayed s s' o o' run joins.1 (λ opened. joins.3)
       (λ closed. true≢false s'.closed closed joins.2)
-  comes_joined s s' batch (Err fault.Memory) o o' joins =
-      stayed s s' o o' joins.1 (λ opened. joins.3)
+  comes_joined s s' batch (Err fault.Memory) o o' run joins =
+      stayed s s' o o' run joins.1 (λ opened. joins.3)
       (λ closed. true≢false s'.closed closed joins.2)
-  comes_joined s s' batch (Err fault.DiskFault) o o' joins =
-      stayed s s' o o' joins.0 (λ opened. true≢false s'.closed joins.1 opened) (λ closed. joins.2)
-  comes_joined s s' batch (Err fault.Closed) o o' joins = absurd joins
+  comes_joined s s' batch (Err fault.DiskFault) o o' run joins =
+      stayed s s' o o' run joins.0 (λ opened. true≢false s'.closed joins.1 opened) (λ closed. joins.2)
+  comes_joined s s' batch (Err fault.Closed) o o' run joins = absurd joins
 
   -- ---- settling
 
@@ -212,12 +229,13 @@ module _ (clients : Meaning) where
   steps_so s s' more (Err fault.Full) o o' so = absurd so
 
   pub comes_steps : (s s' : StoreValue) (result : Result (Unit {0}) StoreFault) (o o' : Outside)
-      → IsGathering clients s o.files → (on : SettlesBehind clients s s' result o o')
+      → DiskRun o o' → IsGathering clients s o.files → (on : SettlesBehind clients s s' result o o')
       → ComesBehind clients s s' o o' on.more
-  comes_steps s s' result o o' gathering on =
+  comes_steps s s' result o o' run gathering on =
       let so = steps_so s s' on.more result o o' on.answer in
       let same = by_closed s'.closed refl so.0 so.1 in
       record {
+        run = run;
         facts = λ opened. on.steps.facts;
         format = same.0;
         limit = same.1;
@@ -252,6 +270,7 @@ module _ (clients : Meaning) where
       → s1.closed ≡ false → ComesBehind clients s0 s1 o0 o1 xs → ComesBehind clients s1 s2 o1 o2 ys
       → ComesBehind clients s0 s2 o0 o2 (xs ++ ys)
   comes_then s0 s1 s2 o0 o1 o2 xs ys still first second = record {
+    run = run_then o0 o1 o2 first.run second.run;
     facts = λ opened.
         second.facts opened ∙ ap (λ (f : Facts). after_batches f ys) (first.facts still)
         ∙ sym (after_batches-append s0.state.facts xs ys);

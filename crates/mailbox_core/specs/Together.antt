@@ -2,7 +2,7 @@
 -- once all of them are added.
 use Rattle.std.specs.Prelude.{◌≡◌, true, false, List, [], ◌∷◌, ◌++◌, Some, Result, Ok, Err}
 use Rattle.outside.specs.Files.{Two, File}
-use Rattle.outside.specs.Outside.{Outside}
+use Rattle.outside.specs.Outside.{DiskRun, Outside}
 use Rattle.sync_rules.specs.declared.entries.Entry.{Entry}
 use Rattle.sync_rules.specs.Clients.{Meaning}
 use Rattle.sync_rules.specs.Facts.{after_batches}
@@ -27,6 +27,7 @@ FindRoom clients s o more =
 -- was added or waits. Where it is closed, since a call of the disk failed, all were to be added.
 pub record ComesBehind (clients : Meaning) (s s' : StoreValue) (o o' : Outside)
     (more : List (List Entry)) : Type 0 where
+  pub run : DiskRun o o'
   pub facts : s'.closed ≡ false → s'.state.facts ≡ after_batches s.state.facts more
   pub format : s'.format ≡ s.format
   pub limit : s'.limit ≡ s.limit
