@@ -129,12 +129,12 @@ module _ (clients : Meaning) (asked : Sending) (now : ℕ) (s s' : StoreValue) (
   sent_all made u has = record {
     does = record {
       more = has.more;
-      comes = has.comes;
+      comes = has.adds.comes;
       some = some_of made has.more s'.state.facts has.answer.2;
       answer = (
         has.answer.0,
         has.answer.1,
-        whole_of made has.more s'.state.facts (has.comes.runs.facts has.answer.0) has.answer.2,
+        whole_of made has.more s'.state.facts (has.adds.comes.runs.facts has.answer.0) has.answer.2,
       );
       by = tt;
     };
@@ -145,9 +145,9 @@ module _ (clients : Meaning) (asked : Sending) (now : ℕ) (s s' : StoreValue) (
   sent_full has = record {
     does = record {
       more = has.more;
-      comes = has.comes;
+      comes = has.adds.comes;
       some = full_some has.more has.answer.2;
-      answer = (has.answer.0, full_lacks has.more (has.comes.runs.facts has.answer.0) has.answer.2);
+      answer = (has.answer.0, full_lacks has.more (has.adds.comes.runs.facts has.answer.0) has.answer.2);
       by = tt;
     };
     bytes = tt;
@@ -155,7 +155,7 @@ module _ (clients : Meaning) (asked : Sending) (now : ℕ) (s s' : StoreValue) (
 
   pub sent_memory : Wrote (Err fault.Memory) → Sent (Err outcome.Memory)
   sent_memory has = record {
-    does = record { more = has.more; comes = has.comes; some = has.answer.1; answer = tt; by = tt };
+    does = record { more = has.more; comes = has.adds.comes; some = has.answer.1; answer = tt; by = tt };
     bytes = tt;
   }
 
@@ -163,7 +163,7 @@ module _ (clients : Meaning) (asked : Sending) (now : ℕ) (s s' : StoreValue) (
       → Sent (Err outcome.DiskFault)
   sent_disk has rose = record {
     does =
-        record { more = has.more; comes = has.comes; some = has.answer.1; answer = tt; by = rose };
+        record { more = has.more; comes = has.adds.comes; some = has.answer.1; answer = tt; by = rose };
     bytes = tt;
   }
 

@@ -178,7 +178,7 @@ module _ (clients : Meaning) (contact : ℕ) (bytes : List ℕ) (s s' : StoreVal
   pub does_all : (end : BoxEnd) → HasReadBox clients contact bytes s s' (Ok end) o o' → Does (Ok tt)
   does_all end has = record {
     more = has.more;
-    comes = has.comes;
+    comes = has.adds.comes;
     some = whole_is_some clients contact s.state.facts (box_records bytes) has.more has.answer.2;
     answer = (has.answer.0, has.answer.1, has.answer.2);
     by = tt;
@@ -188,12 +188,12 @@ module _ (clients : Meaning) (contact : ℕ) (bytes : List ℕ) (s s' : StoreVal
       → Does (Err outcome.Full)
   does_full has = record {
     more = has.more;
-    comes = has.comes;
+    comes = has.adds.comes;
     some = full_is_some clients contact s.state.facts (box_records bytes) has.more s' has.answer.2;
     answer = (
       has.answer.0,
       lacks clients contact s.state.facts (box_records bytes) has.more bytes s'
-          (has.comes.runs.facts has.answer.0) refl
+          (has.adds.comes.runs.facts has.answer.0) refl
           has.answer.2,
     );
     by = tt;
@@ -202,13 +202,13 @@ module _ (clients : Meaning) (contact : ℕ) (bytes : List ℕ) (s s' : StoreVal
   pub does_memory : HasReadBox clients contact bytes s s' (Err fault.Memory) o o'
       → Does (Err outcome.Memory)
   does_memory has =
-      record { more = has.more; comes = has.comes; some = has.answer.1; answer = tt; by = tt }
+      record { more = has.more; comes = has.adds.comes; some = has.answer.1; answer = tt; by = tt }
 
   pub does_disk : HasReadBox clients contact bytes s s' (Err fault.DiskFault) o o'
       → CountRose o.disk_faults o'.disk_faults
       → Does (Err outcome.DiskFault)
   does_disk has rose =
-      record { more = has.more; comes = has.comes; some = has.answer.1; answer = tt; by = rose }
+      record { more = has.more; comes = has.adds.comes; some = has.answer.1; answer = tt; by = rose }
 
 -- ---- the text
 

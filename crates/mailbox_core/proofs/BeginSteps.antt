@@ -2,7 +2,7 @@
 use Rattle.std.proofs.Common.{◌≡◌, ℕ, ◌<◌, true, false, cond, List, [], ◌∷◌, ◌++◌, length}
 use Rattle.std.proofs.Common.{refl, sym, ◌∙◌, ap, subst, inl, inr, arith, Some, None, is_some}
 use Rattle.std.proofs.Common.{nat_eq, eq-eqb, eqb-true, Result, Ok, Err}
-use Rattle.outside.specs.Outside.{Outside}
+use Rattle.outside.specs.Outside.{DiskRun, Outside}
 use Rattle.record_stream.specs.Reading.{fresh_reader}
 use Rattle.sync_ids.specs.declared.records.Record.{Record}
 use Rattle.sync_rules.specs.declared.entries.Entry.{Entry}
@@ -17,18 +17,18 @@ use Rattle.sync_store.specs.declared.fault.StoreFault.{StoreFault}
 use Rattle.sync_store.specs.declared.fault.StoreFault.TheVariants as fault
 use Rattle.sync_store.specs.Commits.{needed}
 use Rattle.sync_store.specs.Fitting.{ImagesStand}
-use Rattle.sync_store.specs.Ready.{IsReady}
-use Rattle.sync_store.specs.Store.{IsStore, StoreValue}
+use Rattle.sync_store.specs.Gathering.{JoinsBehind}
+use Rattle.sync_store.specs.Groups.{IsGathering}
+use Rattle.sync_store.specs.Store.{StoreValue}
+use Rattle.mailbox_core.proofs.Together.{comes_joined, comes_none, comes_then}
 use Rattle.mailbox_core.specs.declared.ends.BoxEnd.{BoxEnd}
 use Rattle.mailbox_core.specs.Files.{box_ending, box_records}
-use Rattle.mailbox_core.specs.Reading.{HasReadBox, ReadsSo, ReadsTo}
-use Rattle.mailbox_core.specs.Steps.{BeginsSo, HasBegunSession, HasCommitted, HasReadRest}
+use Rattle.mailbox_core.specs.Reading.{ReadsSo, ReadsTo}
+use Rattle.mailbox_core.specs.Steps.{BeginsSo, HasBegunSession, HasGatheredBox, HasReadRest}
 use Rattle.mailbox_core.specs.Steps.{IsOpenFor, RecordsLeft, RestSo, left_of, next_on}
 use Rattle.mailbox_core.specs.Taking.{AllTaken, NoRoomFor, SomeTaken, TakesTo, first_batch}
-use Rattle.mailbox_core.proofs.Committed.{needed_stays}
+use Rattle.mailbox_core.proofs.Joined.{needed_stays}
 use Rattle.mailbox_core.proofs.Lefts.{left_first}
-use Rattle.mailbox_core.proofs.Rooms.{comes_none, comes_then}
-use Rattle.mailbox_core.proofs.Taken.{none_some}
 
 abbrev Batches : Type 0
 Batches = List (List Entry)
@@ -62,85 +62,80 @@ module _ (clients : Meaning) (contact latency : ℕ) (s s' : StoreValue) (o o' :
   abbrev its : List Entry
   its = first_batch (batch_session s.state.facts.begun contact latency)
 
-  begun_facts : (u : Unit {0}) → HasCommitted clients s s' its (Ok u) o o' → s'.state.facts
+  begun_facts : (u : Unit {0}) → JoinsBehind clients s s' its (Ok u) o o' → s'.state.facts
       ≡ after_all s.state.facts its
-  begun_facts u has = has.answer.2.facts
+  begun_facts u joins = joins.1.facts
 
   -- it is found then
-  pub begun_found : (u : Unit {0}) → HasCommitted clients s s' its (Ok u) o o' → is_some
+  pub begun_found : (u : Unit {0}) → JoinsBehind clients s s' its (Ok u) o o' → is_some
       (session_at s'.state.facts.sessions s.state.facts.begun) ≡ true
-  begun_found u has =
-      ap (λ (f : Facts). is_some (session_at f.sessions s.state.facts.begun)) (begun_facts u has)
+  begun_found u joins =
+      ap (λ (f : Facts). is_some (session_at f.sessions s.state.facts.begun)) (begun_facts u joins)
       ∙ found_pushed s.state.facts.sessions (batch_session s.state.facts.begun contact latency)
       s.state.facts.begun refl
 
-  pub has_begun : (u : Unit {0}) (session : Session) → HasCommitted clients s s' its (Ok u) o o'
+  pub has_begun : (u : Unit {0}) (session : Session) → DiskRun o o'
+      → JoinsBehind clients s s' its (Ok u) o o'
       → session_at s'.state.facts.sessions s.state.facts.begun ≡ Some session
-      → HasBegunSession clients contact latency s s'
-      (Ok session) o o'
-  has_begun u session has found = record {
+      → HasBegunSession clients contact latency s s' (Ok session) o o'
+  has_begun u session run joins found = record {
     more = its ∷ [];
-    comes = has.comes;
+    comes = comes_joined clients s s' its (Ok u) o o' run joins;
     answer = (
-      has.answer.2.closed,
+      joins.1.closed,
       refl,
       numbered_so s'.state.facts.sessions s.state.facts.begun session found,
     );
   }
 
   pub begun_able : (u : Unit {0}) (session : Session) → IsSettled clients s.state.facts
-      → HasCommitted clients s s' its
-      (Ok u) o o'
-      → session_at s'.state.facts.sessions s.state.facts.begun ≡ Some session →
-      (s'.closed ≡ false → IsReady clients s' o'.files) → IsStore s'
-      → IsOpenFor clients session s' o'
-  begun_able u session settled has found ready store =
-      let number : session.number
-      ≡ s.state.facts.begun =
+      → JoinsBehind clients s s' its (Ok u) o o'
+      → session_at s'.state.facts.sessions s.state.facts.begun ≡ Some session
+      → (s'.closed ≡ false → IsGathering clients s' o'.files) → IsOpenFor clients session s' o'
+  begun_able u session settled joins found gathering =
+      let number : session.number ≡ s.state.facts.begun =
       numbered_so s'.state.facts.sessions s.state.facts.begun session found in
       record {
-        ready = ready has.answer.2.closed;
-        is_store = store;
+        gathering = gathering joins.1.closed;
         settled =
-            subst (IsSettled clients) (sym (begun_facts u has))
+            subst (IsSettled clients) (sym (begun_facts u joins))
             (settled_stays clients s.state.facts its refl settled);
         found = ap (session_at s'.state.facts.sessions) number ∙ found;
       }
 
-  pub not_begun : (e : StoreFault) → s.closed ≡ false → HasCommitted clients s s' its (Err e) o o'
-      → HasBegunSession clients contact latency s s' (Err e) o o'
-  not_begun fault.Closed opened has =
-      let closed : s.closed ≡ true = has.answer.0 in
-      absurd (let e : true ≡ false = sym closed ∙ opened in cc)
-  not_begun fault.Full opened has =
-      let sum : needed s' its ≡ needed s its = needed_stays s s' its has.answer.2 in
-      let limit : s'.limit ≡ s.limit = has.answer.2.limit in
-      let over : s.limit < needed s its = has.answer.1 in
-      record {
-        more = [];
-        comes = has.comes;
-        answer = (has.answer.2.closed ∙ has.answer.0, refl, omega (arith, sum, limit, over));
-      }
-  not_begun fault.Memory opened has =
-      record { more = []; comes = has.comes; answer = (has.answer.2.closed ∙ has.answer.0, refl) }
-  not_begun fault.DiskFault opened has =
-      record { more = its ∷ []; comes = has.comes; answer = (has.answer.2.closed, refl) }
+  not_begun_now : (e : StoreFault) → JoinsBehind clients s s' its (Err e) o o'
+      → BeginsSo contact latency s.state.facts s' [] (Err e)
+  not_begun_now fault.Closed joins = absurd joins
+  not_begun_now fault.Full joins =
+      let sum : needed s' its ≡ needed s its = needed_stays s s' its joins.1 in
+      let limit : s'.limit ≡ s.limit = joins.1.limit in
+      let over : s.limit < needed s its = joins.0 in
+      (joins.2, refl, omega (arith, sum, limit, over))
+  not_begun_now fault.Memory joins = (joins.2, refl)
+  not_begun_now fault.DiskFault joins = (joins.1, refl)
 
--- the batch that was committed is that of the session
+  pub not_begun : (e : StoreFault) → DiskRun o o' → JoinsBehind clients s s' its (Err e) o o'
+      → HasBegunSession clients contact latency s s' (Err e) o o'
+  not_begun e run joins = record {
+    more = [];
+    comes = comes_joined clients s s' its (Err e) o o' run joins;
+    answer = not_begun_now e joins;
+  }
+
+-- the batch that was gathered is that of the session
 pub of_its_batch : (clients : Meaning) (s s' : StoreValue) (batch first : List Entry)
     (result : Result (Unit {0}) StoreFault) (o o' : Outside) → batch ≡ first
-    → HasCommitted clients s s' batch result o o' → HasCommitted clients s s' first result o o'
-of_its_batch clients s s' batch first result o o' is has =
-    subst (λ (b : List Entry). HasCommitted clients s s' b result o o') is has
+    → JoinsBehind clients s s' batch result o o' → JoinsBehind clients s s' first result o o'
+of_its_batch clients s s' batch first result o o' is joins =
+    subst (λ (b : List Entry). JoinsBehind clients s s' b result o o') is joins
 
 -- no memory was found for it
 pub begun_starved : ImagesStand → (clients : Meaning) (contact latency : ℕ) (s : StoreValue)
-    (o : Outside) → IsStore s
-    → s.closed ≡ false
-    → HasBegunSession clients contact latency s s (Err fault.Memory) o o
-begun_starved images clients contact latency s o store opened = record {
+    (o : Outside) → s.closed ≡ false → HasBegunSession clients contact latency s s
+    (Err fault.Memory) o o
+begun_starved images clients contact latency s o opened = record {
   more = [];
-  comes = comes_none images clients s o store;
+  comes = comes_none clients images s o opened;
   answer = (opened, refl);
 }
 
@@ -148,12 +143,11 @@ begun_starved images clients contact latency s o store opened = record {
 
 module _ (clients : Meaning) (contact : ℕ) (bytes : List ℕ) (s : StoreValue) (o : Outside) where
   -- no memory was found for it
-  pub box_starved : ImagesStand → IsStore s → s.closed ≡ false
-      → HasReadBox clients contact bytes s s (Err fault.Memory)
-      o o
-  box_starved images store opened = record {
+  pub box_starved : ImagesStand → s.closed ≡ false
+      → HasGatheredBox clients contact bytes s s (Err fault.Memory) o o
+  box_starved images opened = record {
     more = [];
-    comes = comes_none images clients s o store;
+    comes = comes_none clients images s o opened;
     answer = (opened, inl refl);
   }
 
@@ -168,26 +162,16 @@ module _ (clients : Meaning) (contact : ℕ) (bytes : List ℕ) (s : StoreValue)
       facts so.0 ∙ ap (after_batches s.state.facts) so.1 in
       (so.0, subst (IsSettled clients) (sym same) settled, inl (so.1, so.2))
   not_begun_so s' more fault.Memory settled facts so = (so.0, inl so.1)
-  not_begun_so s' more fault.DiskFault settled facts so = (
-    so.0,
-    inr (record {
-      rest = [];
-      is = so.1;
-      later =
-          none_some clients s.state.facts.begun
-          (after s.state.facts (entry.Session (batch_session s.state.facts.begun contact 1)))
-          (takes_of s.state.facts.takes s.state.facts.begun) (box_records bytes);
-    }),
-  )
+  not_begun_so s' more fault.DiskFault settled facts so = (so.0, inl so.1)
 
   pub box_not_begun : (s' : StoreValue) (e : StoreFault) (o' : Outside)
       → IsSettled clients s.state.facts
       → HasBegunSession clients contact 1 s s' (Err e) o o'
-      → HasReadBox clients contact bytes s s' (Err e) o o'
+      → HasGatheredBox clients contact bytes s s' (Err e) o o'
   box_not_begun s' e o' settled has = record {
     more = has.more;
     comes = has.comes;
-    answer = not_begun_so s' has.more e settled has.comes.runs.facts has.answer;
+    answer = not_begun_so s' has.more e settled has.comes.facts has.answer;
   }
 
   module _ (s1 s2 : StoreValue) (session : Session) (o1 o2 : Outside)
@@ -195,7 +179,7 @@ module _ (clients : Meaning) (contact : ℕ) (bytes : List ℕ) (s : StoreValue)
     facts_there : s1.state.facts ≡ after s.state.facts
         (entry.Session (batch_session s.state.facts.begun contact 1))
     facts_there =
-        begun.comes.runs.facts begun.answer.0 ∙ ap (after_batches s.state.facts) begun.answer.1
+        begun.comes.facts begun.answer.0 ∙ ap (after_batches s.state.facts) begun.answer.1
 
     -- what is taken from there on is taken behind the session
     behind : (P : Facts → ℕ → List Record → Batches → Type 0) (left : RecordsLeft) (rest : Batches)
@@ -274,7 +258,7 @@ module _ (clients : Meaning) (contact : ℕ) (bytes : List ℕ) (s : StoreValue)
     pub box_read : (result : Result BoxEnd StoreFault) → HasReadRest clients session.number s1 s2
         (left_of fresh_reader bytes)
         result o1 o2
-        → HasReadBox clients contact bytes s s2 result o o2
+        → HasGatheredBox clients contact bytes s s2 result o o2
     box_read result has = record {
       more = begun.more ++ has.more;
       comes = comes_then clients s s1 s2 o o1 o2 begun.more has.more begun.answer.0 begun.comes
@@ -285,7 +269,7 @@ module _ (clients : Meaning) (contact : ℕ) (bytes : List ℕ) (s : StoreValue)
     pub box_read_at : (left : RecordsLeft) (result : Result BoxEnd StoreFault)
         → left ≡ left_of fresh_reader bytes
         → HasReadRest clients session.number s1 s2 left result o1 o2
-        → HasReadBox clients contact bytes s s2 result o o2
+        → HasGatheredBox clients contact bytes s s2 result o o2
     box_read_at left result is has =
         box_read result (subst (λ (l : RecordsLeft).
         HasReadRest clients session.number s1 s2 l result o1 o2) is has)

@@ -1,9 +1,10 @@
-pub mod Rooms
-pub mod Committed
+pub mod Together
+pub mod Joined
 pub mod Taken
 pub mod Versions
 pub mod Lefts
 pub mod ReadSteps
 pub mod BeginSteps
 pub mod SendSteps
+pub mod Flushed
 pub mod Journals

@@ -12,15 +12,15 @@ use Rattle.sync_store.specs.declared.fault.StoreFault.{StoreFault}
 use Rattle.sync_store.specs.declared.fault.StoreFault.TheVariants as fault
 use Rattle.sync_store.specs.Fitting.{ImagesStand}
 use Rattle.sync_store.specs.Store.{StoreValue}
+use Rattle.mailbox_core.specs.Together.{ComesBehind}
+use Rattle.mailbox_core.proofs.Together.{comes_none, comes_then}
 use Rattle.mailbox_core.specs.declared.ends.BoxEnding.{BoxEnding}
 use Rattle.mailbox_core.specs.declared.ends.BoxEnding.TheVariants as box
 use Rattle.sync_course.specs.Links.{closes}
-use Rattle.sync_store.specs.Rooms.{StoreComesTo}
 use Rattle.mailbox_core.specs.Steps.{HasReadItem, HasReadRest, HasTakenRecord, IsAt, IsOpenFor}
 use Rattle.mailbox_core.specs.Steps.{RecordsLeft, StopsSo, TakesSo, next_on}
 use Rattle.mailbox_core.specs.Taking.{AllTaken, NoRoomFor, SomeTaken, TakesTo}
 use Rattle.mailbox_core.proofs.Lefts.{BehindOne}
-use Rattle.mailbox_core.proofs.Rooms.{comes_none, comes_then}
 use Rattle.mailbox_core.proofs.Taken.{at_here, counted, none_some, one_then, then_on}
 
 abbrev Batches : Type 0
@@ -39,7 +39,7 @@ module _ (clients : Meaning) (session : ℕ) (s s' : StoreValue) (left left' : R
       let records : left.records ≡ r ∷ left'.records = behind.records
       ∙ ap (λ b. r ∷ cond b [] left'.records) own in
       let facts : s'.state.facts ≡ after_batches s.state.facts has.more =
-      has.comes.runs.facts has.answer.0 in
+      has.comes.facts has.answer.0 in
       let here : TakesTo clients session (IsAt s'.state.facts (next_on s' session) left'.records)
       s'.state.facts
       (next_on s session + 1) left'.records [] =
@@ -73,7 +73,7 @@ module _ (clients : Meaning) (session : ℕ) (s s' : StoreValue) (left left' : R
       let records : left.records ≡ r ∷ [] = behind.records
       ∙ ap (λ b. r ∷ cond b [] left'.records) foreign in
       let facts : s'.state.facts ≡ after_batches s.state.facts has.more =
-      has.comes.runs.facts has.answer.0 in
+      has.comes.facts has.answer.0 in
       let count : next_on s' session ≡ next_on s session + 1 = has.answer.3 in
       let many : length left.records ≡ 1 = ap length records in
       record {
@@ -125,9 +125,9 @@ module _ (images : ImagesStand) (clients : Meaning) (session : Session) (s : Sto
   pub read_past : left ≡ left' → HasReadItem clients session.number s s left left' (Ok None) o o
   read_past same = record {
     more = [];
-    comes = comes_none images clients s o able.is_store;
+    comes = comes_none clients images s o able.gathering.still_open;
     answer = (
-      able.ready.still_open,
+      able.gathering.still_open,
       subst (λ (l : RecordsLeft).
           TakesTo clients session.number (IsAt s.state.facts (next_on s session.number) l.records)
           s.state.facts (next_on s session.number) left.records [])
@@ -144,9 +144,9 @@ module _ (images : ImagesStand) (clients : Meaning) (session : Session) (s : Sto
       let many : length left.records ≡ 0 = ap (λ (l : RecordsLeft). length l.records) none in
       record {
         more = [];
-        comes = comes_none images clients s o able.is_store;
+        comes = comes_none clients images s o able.gathering.still_open;
         answer = (
-          able.ready.still_open,
+          able.gathering.still_open,
           subst (λ (rs : List Record).
               TakesTo clients session.number AllTaken s.state.facts (next_on s session.number)
               rs [])
@@ -160,9 +160,9 @@ module _ (images : ImagesStand) (clients : Meaning) (session : Session) (s : Sto
   pub read_starved : HasReadItem clients session.number s s left left' (Err fault.Memory) o o
   read_starved = record {
     more = [];
-    comes = comes_none images clients s o able.is_store;
+    comes = comes_none clients images s o able.gathering.still_open;
     answer = (
-      able.ready.still_open,
+      able.gathering.still_open,
       none_some clients session.number s.state.facts (next_on s session.number) left.records,
     );
   }
@@ -174,7 +174,7 @@ pub record Underway (clients : Meaning) (session : ℕ) (s s' : StoreValue) (lef
     (o o' : Outside)
     : Type 0 where
   pub more : Batches
-  pub comes : StoreComesTo clients s s' o o' more
+  pub comes : ComesBehind clients s s' o o' more
   pub still_open : s'.closed ≡ false
   pub came : TakesTo clients session
       (IsAt s'.state.facts (next_on s' session) left'.records) s.state.facts
@@ -187,8 +187,8 @@ pub way_begins : ImagesStand → (clients : Meaning) (session : Session) (s : St
     → Underway clients session.number s s left left o o
 way_begins images clients session s left o able = record {
   more = [];
-  comes = comes_none images clients s o able.is_store;
-  still_open = able.ready.still_open;
+  comes = comes_none clients images s o able.gathering.still_open;
+  still_open = able.gathering.still_open;
   came = at_here clients session.number s.state.facts (next_on s session.number) left.records;
   same_ending = refl;
 }

@@ -1,9 +1,9 @@
 -- Outputs that are committed one after the other, and a file that is made of them.
 use Rattle.std.proofs.Common.{◌≡◌, ℕ, ◌+◌, ◌<◌, ◌≤◌, true, false, cond, List, [], ◌∷◌, ◌++◌, length}
 use Rattle.std.proofs.Common.{refl, sym, ◌∙◌, ap, subst, inl, inr, arith, append_assoc, append-nil}
-use Rattle.std.proofs.Common.{length-append, Option, Some, None, nat_eq, eq-eqb, Ok, Err}
+use Rattle.std.proofs.Common.{length-append, Option, Some, None, nat_eq, eq-eqb, Result, Ok, Err}
 use Rattle.std.proofs.lemmas.Grind.{flat_map-append}
-use Rattle.outside.specs.Outside.{Outside}
+use Rattle.outside.specs.Outside.{DiskRun, Outside}
 use Rattle.record_grammar.specs.Spelling.{spelled, spelling}
 use Rattle.sync_ids.specs.declared.records.Record.{Record}
 use Rattle.sync_ids.specs.declared.records.Record.TheVariants as record_kind
@@ -19,21 +19,25 @@ use Rattle.sync_rules.specs.Legal.{IsDue}
 use Rattle.sync_rules.specs.Output.{first_records, out_records}
 use Rattle.sync_rules.specs.Steps.{IsSettled}
 use Rattle.sync_rules.specs.Hearing.{batch_session}
+use Rattle.sync_rules.proofs.StepKinds.{settled_stays}
 use Rattle.sync_store.specs.declared.fault.StoreFault.{StoreFault}
 use Rattle.sync_store.specs.declared.fault.StoreFault.TheVariants as fault
 use Rattle.sync_store.specs.Commits.{needed}
 use Rattle.sync_store.specs.Fitting.{ImagesStand}
-use Rattle.sync_store.specs.Store.{IsStore, StoreValue}
-use Rattle.sync_store.specs.Rooms.{StoreComesTo}
+use Rattle.sync_store.specs.Gathering.{JoinsBehind}
+use Rattle.sync_store.specs.Groups.{IsGathering}
+use Rattle.sync_store.specs.Store.{IsStore, NoneWaits, StoreValue}
+use Rattle.mailbox_core.specs.Together.{ComesBehind}
+use Rattle.mailbox_core.proofs.Together.{comes_joined, comes_none, comes_nothing, comes_then}
 use Rattle.mailbox_core.specs.Sending.{AreDue, HasWrittenBox, IsSessionQuiet, SendsAll, SendsSome}
 use Rattle.mailbox_core.specs.Sending.{SendsUntilFull, WritesSo, WritesSome}
 use Rattle.sync_course.specs.LinkTurns.{out_batch}
 use Rattle.mailbox_core.specs.Sending.{out_batches}
-use Rattle.mailbox_core.specs.Steps.{BeginsSo, HasBegunSession, HasCommitted, HasPut, HasPutAll}
-use Rattle.mailbox_core.specs.Steps.{IsOpenFor, PutsAllSo, CommitsDue, PutsSo}
+use Rattle.mailbox_core.specs.Steps.{BeginsSo, CommitsDue, HasBegunSession, HasPut, HasPutAll}
+use Rattle.mailbox_core.specs.Steps.{HasPutBox, IsOpenFor, PutsAllSo, PutsBoxSo, PutsSo}
 use Rattle.mailbox_core.specs.Taking.{BeginsThen, first_batch}
-use Rattle.mailbox_core.proofs.Committed.{needed_stays}
-use Rattle.mailbox_core.proofs.Rooms.{comes_none, comes_then}
+use Rattle.mailbox_core.proofs.Joined.{needed_stays}
+use Rattle.mailbox_core.proofs.Taken.{still_able}
 
 abbrev Batches : Type 0
 Batches = List (List Entry)
@@ -98,57 +102,53 @@ module _ (clients : Meaning) (session now : ℕ) (s s' : StoreValue) (to to' : L
   pub put_made : (u : Unit {0}) (what : Out) → IsDue clients s.state.facts
       (session_at s.state.facts.sessions session)
       now what
-      → to' ≡ to ++ spelled (out_records s.state.facts.held what) → HasCommitted clients s s'
+      → to' ≡ to ++ spelled (out_records s.state.facts.held what) → DiskRun o o'
+      → JoinsBehind clients s s'
       (out_batch session now what) (Ok u) o o'
       → HasPut clients session now s s' to to' (Ok true) o o'
-  put_made u what due bytes has = record {
+  put_made u what due bytes run joins = record {
     more = out_batch session now what ∷ [];
-    comes = has.comes;
+    comes = comes_joined clients s s' (out_batch session now what) (Ok u) o o' run joins;
     answer = (
-      has.answer.2.closed,
+      joins.1.closed,
       record { what = what; due = due; is = refl },
       bytes ∙ ap (λ (rs : List Record). to ++ spelled rs)
           (sym (out_adds s.state.facts session now what)),
     );
   }
 
-  pub put_failed : (e : StoreFault) (what : Out) → s.closed ≡ false
-      → IsSettled clients s.state.facts
+  put_failed_so : (e : StoreFault) (what : Out) → IsSettled clients s.state.facts
       → IsDue clients s.state.facts (session_at s.state.facts.sessions session) now what
-      → HasCommitted clients s s' (out_batch session now what) (Err e) o o'
-      → HasPut clients session now s s' to to'
-      (Err e) o o'
-  put_failed fault.Closed what opened settled due has =
-      let closed : s.closed ≡ true = has.answer.0 in
-      absurd (let e : true ≡ false = sym closed ∙ opened in cc)
-  put_failed fault.Full what opened settled due has =
+      → JoinsBehind clients s s' (out_batch session now what) (Err e) o o'
+      → PutsSo clients session now s s' [] to to' (Err e)
+  put_failed_so fault.Closed what settled due joins = absurd joins
+  put_failed_so fault.Full what settled due joins =
       let its : List Entry = out_batch session now what in
-      let sum : needed s' its ≡ needed s its = needed_stays s s' its has.answer.2 in
-      let limit : s'.limit ≡ s.limit = has.answer.2.limit in
-      let over : s.limit < needed s its = has.answer.1 in
-      record {
-        more = [];
-        comes = has.comes;
-        answer = (
-          has.answer.2.closed ∙ has.answer.0,
-          subst (IsSettled clients) (sym has.answer.2.facts) settled,
-          refl,
-          record {
-            next = what;
-            due =
-                subst (λ (f : Facts). IsDue clients f (session_at f.sessions session) now what)
-                (sym has.answer.2.facts)
-                due;
-            over = omega (arith, sum, limit, over);
-          },
-        );
-      }
-  put_failed fault.Memory what opened settled due has =
-      record { more = []; comes = has.comes; answer = (has.answer.2.closed ∙ has.answer.0, refl) }
-  put_failed fault.DiskFault what opened settled due has = record {
-    more = out_batch session now what ∷ [];
-    comes = has.comes;
-    answer = (has.answer.2.closed, record { what = what; due = due; is = refl });
+      let sum : needed s' its ≡ needed s its = needed_stays s s' its joins.1 in
+      let limit : s'.limit ≡ s.limit = joins.1.limit in
+      let over : s.limit < needed s its = joins.0 in (
+        joins.2,
+        subst (IsSettled clients) (sym joins.1.facts) settled,
+        refl,
+        record {
+          next = what;
+          due =
+              subst (λ (f : Facts). IsDue clients f (session_at f.sessions session) now what)
+              (sym joins.1.facts) due;
+          over = omega (arith, sum, limit, over);
+        },
+      )
+  put_failed_so fault.Memory what settled due joins = (joins.2, refl)
+  put_failed_so fault.DiskFault what settled due joins = (joins.1, refl)
+
+  pub put_failed : (e : StoreFault) (what : Out) → IsSettled clients s.state.facts
+      → IsDue clients s.state.facts (session_at s.state.facts.sessions session) now what
+      → DiskRun o o' → JoinsBehind clients s s' (out_batch session now what) (Err e) o o'
+      → HasPut clients session now s s' to to' (Err e) o o'
+  put_failed e what settled due run joins = record {
+    more = [];
+    comes = comes_joined clients s s' (out_batch session now what) (Err e) o o' run joins;
+    answer = put_failed_so e what settled due joins;
   }
 
 module _ (images : ImagesStand) (clients : Meaning) (session : Session) (now : ℕ) (s : StoreValue)
@@ -161,9 +161,9 @@ module _ (images : ImagesStand) (clients : Meaning) (session : Session) (now : �
       → HasPut clients session.number now s s to to (Ok false) o o
   put_none to none = record {
     more = [];
-    comes = comes_none images clients s o able.is_store;
+    comes = comes_none clients images s o able.gathering.still_open;
     answer = (
-      able.ready.still_open,
+      able.gathering.still_open,
       quiet_is clients s.state.facts session now able.found none,
       refl,
       refl,
@@ -175,9 +175,21 @@ module _ (images : ImagesStand) (clients : Meaning) (session : Session) (now : �
       (Err fault.Memory) o o
   put_starved to to' = record {
     more = [];
-    comes = comes_none images clients s o able.is_store;
-    answer = (able.ready.still_open, refl);
+    comes = comes_none clients images s o able.gathering.still_open;
+    answer = (able.gathering.still_open, refl);
   }
+
+-- the session goes on behind an output
+pub able_put : (clients : Meaning) (session : Session) (now : ℕ) (s s' : StoreValue) (o o' : Outside)
+    (u : Unit {0}) (what : Out) → IsOpenFor clients session s o → DiskRun o o'
+    → JoinsBehind clients s s' (out_batch session.number now what) (Ok u) o o'
+    → (s'.closed ≡ false → IsGathering clients s' o'.files) → IsOpenFor clients session s' o'
+able_put clients session now s s' o o' u what able run joins gathering =
+    let its : List Entry = out_batch session.number now what in
+    still_able clients session s s' o o' (its ∷ []) able
+    (comes_joined clients s s' its (Ok u) o o' run joins) joins.1.closed gathering
+    (subst (IsSettled clients) (sym joins.1.facts)
+    (settled_stays clients s.state.facts its refl able.settled))
 
 -- ---- one output after the other
 
@@ -186,7 +198,7 @@ pub record Underway (clients : Meaning) (session now : ℕ) (s s' : StoreValue) 
     (made : ℕ)
     (o o' : Outside) : Type 0 where
   pub outs : List Out
-  pub comes : StoreComesTo clients s s' o o' (out_batches session now outs)
+  pub comes : ComesBehind clients s s' o o' (out_batches session now outs)
   pub still_open : s'.closed ≡ false
   pub due : AreDue clients s.state.facts session now outs
   pub counted : made ≡ length outs
@@ -198,8 +210,8 @@ pub way_begins : ImagesStand → (clients : Meaning) (session : Session) (now : 
     → Underway clients session.number now s s to to 0 o o
 way_begins images clients session now s to o able = record {
   outs = [];
-  comes = comes_none images clients s o able.is_store;
-  still_open = able.ready.still_open;
+  comes = comes_none clients images s o able.gathering.still_open;
+  still_open = able.gathering.still_open;
   due = tt;
   counted = refl;
   bytes = sym (append-nil to);
@@ -210,7 +222,7 @@ module _ (clients : Meaning) (session now : ℕ) (s0 s s' : StoreValue) (to0 to 
     (o0 o o' : Outside)
     (way : Underway clients session now s0 s to0 to made o0 o) where
   there : s.state.facts ≡ after_batches s0.state.facts (out_batches session now way.outs)
-  there = way.comes.runs.facts way.still_open
+  there = way.comes.facts way.still_open
 
   due_more : (what : Out) → IsDue clients s.state.facts
       (session_at s.state.facts.sessions session) now what
@@ -238,7 +250,7 @@ module _ (clients : Meaning) (session now : ℕ) (s0 s s' : StoreValue) (to0 to 
       ∙ sym (batches-append session now way.outs (puts.what ∷ [])) in
       record {
         outs = way.outs ++ puts.what ∷ [];
-        comes = subst (λ (bs : Batches). StoreComesTo clients s0 s' o0 o' bs) all
+        comes = subst (λ (bs : Batches). ComesBehind clients s0 s' o0 o' bs) all
             (comes_then clients s0 s s' o0 o o' before has.more way.still_open way.comes has.comes);
         still_open = has.answer.0;
         due = due_more puts.what puts.due;
@@ -297,7 +309,7 @@ module _ (clients : Meaning) (session now : ℕ) (s0 s s' : StoreValue) (to0 to 
   unfolding sends
   way_ends most few has settled = record {
     more = out_batches session now way.outs;
-    comes = subst (λ (bs : Batches). StoreComesTo clients s0 s' o0 o' bs)
+    comes = subst (λ (bs : Batches). ComesBehind clients s0 s' o0 o' bs)
         (no_more has.more has.answer.2)
         (comes_then clients s0 s s' o0 o o' (out_batches session now way.outs)
         has.more way.still_open way.comes has.comes);
@@ -307,19 +319,6 @@ module _ (clients : Meaning) (session now : ℕ) (s0 s s' : StoreValue) (to0 to 
       record { sends = sends most few; counted = way.counted; ends = inr has.answer.1 },
       has.answer.3 ∙ way.bytes,
     );
-  }
-
-  sends_more : (most : ℕ) (more : Batches) → made < most
-      → CommitsDue clients s.state.facts session now more
-      → SendsSome clients s0.state.facts session now most (out_batches session now way.outs ++ more)
-  sends_more most more few puts = record {
-    outs = way.outs ++ puts.what ∷ [];
-    is =
-        ap (λ (bs : Batches). out_batches session now way.outs ++ bs) puts.is ∙ sym
-        (batches-append session now way.outs (puts.what ∷ []));
-    due = due_more puts.what puts.due;
-    few = let so : made + 1 ≡ length (way.outs ++ puts.what ∷ []) =
-        made_more puts.what in omega (arith, so, few);
   }
 
   sends_none : (most : ℕ) (more : Batches) → made < most → more ≡ []
@@ -351,7 +350,7 @@ module _ (clients : Meaning) (session now : ℕ) (s0 s s' : StoreValue) (to0 to 
     },
   )
   stops_so most fault.Memory more few so = (so.0, sends_none most more few so.1)
-  stops_so most fault.DiskFault more few so = (so.0, sends_more most more few so.1)
+  stops_so most fault.DiskFault more few so = (so.0, sends_none most more few so.1)
 
   pub way_stops : (most : ℕ) (e : StoreFault) → made < most → HasPut clients session now s s' to to'
       (Err e) o o'
@@ -366,8 +365,7 @@ module _ (clients : Meaning) (session now : ℕ) (s0 s s' : StoreValue) (to0 to 
 
 -- ---- a file
 
-module _ (clients : Meaning) (contact latency now count : ℕ) (s : StoreValue) (o : Outside)
-    (to : List ℕ) where
+module _ (clients : Meaning) (contact latency now count : ℕ) (s : StoreValue) (o : Outside) where
   abbrev its : Session
   its = batch_session s.state.facts.begun contact latency
 
@@ -375,46 +373,42 @@ module _ (clients : Meaning) (contact latency now count : ℕ) (s : StoreValue) 
   begins = after s.state.facts (entry.Session its)
 
   -- no memory was found for it
-  pub box_starved : ImagesStand → IsStore s → s.closed ≡ false
+  pub box_starved : ImagesStand → IsStore s → s.closed ≡ false → NoneWaits s → (to : List ℕ)
       → HasWrittenBox clients contact latency now count s s to to (Err fault.Memory) o o
-  box_starved images store opened = record {
+  box_starved images store opened none to = record {
     more = [];
-    comes = comes_none images clients s o store;
+    adds = comes_nothing clients s o store opened none images;
     answer = (opened, inl refl, refl);
   }
 
-  nothing_sent : SendsSome clients begins s.state.facts.begun now count []
-  nothing_sent = record { outs = []; is = refl; due = tt; few = omega arith }
-
-  not_begun_so : (s' : StoreValue) (more : Batches) (e : StoreFault)
+  not_begun_so : (s' : StoreValue) (more : Batches) (to : List ℕ) (e : StoreFault)
       → IsSettled clients s.state.facts →
       (s'.closed ≡ false → s'.state.facts ≡ after_batches s.state.facts more)
       → BeginsSo contact latency s.state.facts s' more (Err e)
-      → WritesSo clients contact latency now count s.state.facts s' more to to (Err e)
-  not_begun_so s' more fault.Closed settled facts so = so
-  not_begun_so s' more fault.Full settled facts so =
+      → PutsBoxSo clients contact latency now count s.state.facts s' more to (Err e)
+  not_begun_so s' more to fault.Closed settled facts so = so
+  not_begun_so s' more to fault.Full settled facts so =
       let same : s'.state.facts ≡ s.state.facts =
       facts so.0 ∙ ap (after_batches s.state.facts) so.1 in
       (so.0, subst (IsSettled clients) (sym same) settled, inl (so.1, so.2), refl)
-  not_begun_so s' more fault.Memory settled facts so = (so.0, inl so.1, refl)
-  not_begun_so s' more fault.DiskFault settled facts so =
-      (so.0, inr (record { rest = []; is = so.1; later = nothing_sent }), refl)
+  not_begun_so s' more to fault.Memory settled facts so = (so.0, inl so.1, refl)
+  not_begun_so s' more to fault.DiskFault settled facts so = (so.0, inl so.1, refl)
 
-  pub box_not_begun : (s' : StoreValue) (e : StoreFault) (o' : Outside)
+  pub box_not_begun : (s' : StoreValue) (to : List ℕ) (e : StoreFault) (o' : Outside)
       → IsSettled clients s.state.facts
       → HasBegunSession clients contact latency s s' (Err e) o o'
-      → HasWrittenBox clients contact latency now count s s' to to (Err e) o o'
-  box_not_begun s' e o' settled has = record {
+      → HasPutBox clients contact latency now count s s' to (Err e) o o'
+  box_not_begun s' to e o' settled has = record {
     more = has.more;
     comes = has.comes;
-    answer = not_begun_so s' has.more e settled has.comes.runs.facts has.answer;
+    answer = not_begun_so s' has.more to e settled has.comes.facts has.answer;
   }
 
   module _ (s1 s2 : StoreValue) (session : Session) (o1 o2 : Outside) (first bytes : List ℕ)
       (begun : HasBegunSession clients contact latency s s1 (Ok session) o o1) where
     facts_there : s1.state.facts ≡ begins
     facts_there =
-        begun.comes.runs.facts begun.answer.0 ∙ ap (after_batches s.state.facts) begun.answer.1
+        begun.comes.facts begun.answer.0 ∙ ap (after_batches s.state.facts) begun.answer.1
 
     -- what is sent from there on is sent behind the session
     behind : (Q : Facts → ℕ → Batches → Type 0) (rest : Batches)
@@ -432,42 +426,6 @@ module _ (clients : Meaning) (contact latency now count : ℕ) (s : StoreValue) 
     some_behind : (rest : Batches) → SendsSome clients s1.state.facts session.number now count rest
         → WritesSome clients contact latency now count s.state.facts (begun.more ++ rest)
     some_behind rest q = inr (behind (λ f n later. SendsSome clients f n now count later) rest q)
-
-    pub box_stopped : (e : StoreFault)
-        → HasPutAll clients session.number now count s1 s2 first bytes (Err e) o1 o2
-        → HasWrittenBox clients contact latency now count s s2 to to (Err e) o o2
-    box_stopped e has = record {
-      more = begun.more ++ has.more;
-      comes = comes_then clients s s1 s2 o o1 o2 begun.more has.more begun.answer.0 begun.comes
-          has.comes;
-      answer = so e has.answer;
-    }
-      where
-        so : (x : StoreFault)
-            → PutsAllSo clients session.number now count s1 s2 has.more first bytes (Err x)
-            → WritesSo clients contact latency now count s.state.facts s2 (begun.more ++ has.more)
-            to to (Err x)
-        so fault.Closed a = a
-        so fault.Full a = (
-          a.0,
-          a.1,
-          inr (behind (λ f n later. SendsUntilFull clients f s2 n now count later) has.more
-              a.2),
-          refl,
-        )
-        so fault.Memory a = (a.0, some_behind has.more a.1, refl)
-        so fault.DiskFault a = (a.0, some_behind has.more a.1, refl)
-
-    -- no memory was found to append the bytes
-    pub box_unwritten : (made : ℕ) → HasPutAll clients session.number now count s1 s2 first bytes
-        (Ok made) o1 o2
-        → HasWrittenBox clients contact latency now count s s2 to to (Err fault.Memory) o o2
-    box_unwritten made has = record {
-      more = begun.more ++ has.more;
-      comes = comes_then clients s s1 s2 o o1 o2 begun.more has.more begun.answer.0 begun.comes
-          has.comes;
-      answer = (has.answer.0, some_behind has.more has.answer.2.sends, refl);
-    }
 
     -- all that the session sends
     all_sent : (more : Batches) → first ≡ spelling (record_kind.Versions (0 ∷ []))
@@ -487,19 +445,33 @@ module _ (clients : Meaning) (contact latency now count : ℕ) (s : StoreValue) 
         (λ (rs : List Record). rs ++ later) beginning in
         (λ i. versions i ++ spelled (rest i)) ∙ ap spelled (sym whole)
 
-    pub box_written : (made : ℕ) (to' : List ℕ) → first ≡ spelling (record_kind.Versions (0 ∷ []))
-        → HasPutAll clients session.number now count s1 s2 first bytes (Ok made) o1 o2
-        → to' ≡ to ++ bytes
-        → HasWrittenBox clients contact latency now count s s2 to to' (Ok made) o o2
-    box_written made to' versions has appended = record {
+    puts_so : (more : Batches) (result : Result ℕ StoreFault)
+        → first ≡ spelling (record_kind.Versions (0 ∷ []))
+        → PutsAllSo clients session.number now count s1 s2 more first bytes result
+        → PutsBoxSo clients contact latency now count s.state.facts s2 (begun.more ++ more) bytes
+        result
+    puts_so more (Ok made) versions a = (
+      a.0,
+      a.1,
+      behind (λ f n later. SendsAll clients f s2.state.facts n now count made later) more a.2,
+      a.3 ∙ all_sent more versions,
+    )
+    puts_so more (Err fault.Closed) versions a = a
+    puts_so more (Err fault.Full) versions a = (
+      a.0,
+      a.1,
+      inr (behind (λ f n later. SendsUntilFull clients f s2 n now count later) more a.2),
+      refl,
+    )
+    puts_so more (Err fault.Memory) versions a = (a.0, some_behind more a.1, refl)
+    puts_so more (Err fault.DiskFault) versions a = (a.0, some_behind more a.1, refl)
+
+    pub box_put : (result : Result ℕ StoreFault) → first ≡ spelling (record_kind.Versions (0 ∷ []))
+        → HasPutAll clients session.number now count s1 s2 first bytes result o1 o2
+        → HasPutBox clients contact latency now count s s2 bytes result o o2
+    box_put result versions has = record {
       more = begun.more ++ has.more;
       comes = comes_then clients s s1 s2 o o1 o2 begun.more has.more begun.answer.0 begun.comes
           has.comes;
-      answer = (
-        has.answer.0,
-        has.answer.1,
-        behind (λ f n later. SendsAll clients f s2.state.facts n now count made later) has.more
-            has.answer.2,
-        appended ∙ ap (λ (bs : List ℕ). to ++ bs) (has.answer.3 ∙ all_sent has.more versions),
-      );
+      answer = puts_so has.more result versions has.answer;
     }

@@ -1,9 +1,9 @@
 -- Records that are taken one after the other, put together.
-use Rattle.std.proofs.Common.{◌≡◌, ◌≢◌, ◌⊎◌, ℕ, ◌+◌, true, false, cond, List, [], ◌∷◌, ◌++◌, length}
+use Rattle.std.proofs.Common.{◌≡◌, ℕ, ◌+◌, true, false, cond, List, [], ◌∷◌, ◌++◌, length}
 use Rattle.std.proofs.Common.{refl, sym, ◌∙◌, ap, subst, inl, inr, arith, append_assoc, append-nil}
 use Rattle.std.proofs.Common.{Some, is_some, Result, Ok, Err, eq-eqb}
 use Rattle.std.specs.Prelude.{OnOk}
-use Rattle.outside.specs.Outside.{Outside}
+use Rattle.outside.specs.Outside.{DiskRun, Outside}
 use Rattle.sync_ids.specs.Records.{IsRecord}
 use Rattle.sync_ids.specs.declared.records.Record.{Record}
 use Rattle.session_core.specs.Taking.{take_of}
@@ -22,16 +22,17 @@ use Rattle.sync_rules.proofs.Continuing.{continues_batches}
 use Rattle.sync_rules.proofs.StepKinds.{all_settling_only, takes_one}
 use Rattle.sync_store.specs.declared.fault.StoreFault.{StoreFault}
 use Rattle.sync_store.specs.declared.fault.StoreFault.TheVariants as fault
-use Rattle.sync_store.specs.Commits.{KeepsStore, needed}
+use Rattle.sync_store.specs.Commits.{needed}
 use Rattle.sync_store.specs.Fitting.{ImagesStand}
-use Rattle.sync_store.specs.Ready.{IsReady}
-use Rattle.sync_store.specs.Runs.{AddsBatch, ExtendsSo, HasExtended}
-use Rattle.sync_store.specs.Store.{IsStore, StoreValue}
-use Rattle.sync_store.specs.Rooms.{StoreComesTo}
+use Rattle.sync_store.specs.Gathering.{JoinsBehind, SettlesBehind}
+use Rattle.sync_store.specs.Groups.{IsGathering}
+use Rattle.sync_store.specs.Settling.{SettlesSo}
+use Rattle.sync_store.specs.Store.{StoreValue}
+use Rattle.mailbox_core.specs.Together.{ComesBehind}
+use Rattle.mailbox_core.proofs.Together.{comes_joined, comes_none, comes_steps, comes_then, steps_answer}
 use Rattle.mailbox_core.specs.Steps.{HasTakenRecord, IsAt, IsOpenFor, TakesSo, next_on}
 use Rattle.mailbox_core.specs.Taking.{SomeTaken, TakesRecord, TakesTo}
-use Rattle.mailbox_core.proofs.Committed.{comes_extended, needed_stays}
-use Rattle.mailbox_core.proofs.Rooms.{comes_none}
+use Rattle.mailbox_core.proofs.Joined.{needed_stays}
 
 -- ---- the batch of a record
 
@@ -82,7 +83,7 @@ count_more clients f session k r more allowed takes =
 
 -- ---- one record
 
-module _ (clients : Meaning) (session k : ℕ) (r : Record) (s s' : StoreValue) (batch : List Entry)
+module _ (clients : Meaning) (session k : ℕ) (r : Record) (s s1 : StoreValue) (batch : List Entry)
     (numbered : k ≡ next_on s session)
     (is : batch ≡ take_batch s.state.facts session k r) where
   abbrev its : List Entry
@@ -91,64 +92,78 @@ module _ (clients : Meaning) (session k : ℕ) (r : Record) (s s' : StoreValue) 
   is_its : batch ≡ its
   is_its = is ∙ ap (λ n. take_batch s.state.facts session n r) numbered
 
-  abbrev Record_taken : List (List Entry) → Type 0
-  Record_taken more = TakesRecord clients s.state.facts session (next_on s session) r more
+  -- its batch did not join those that wait
+  not_taken_so : (e : StoreFault) (o o1 : Outside) → IsSettled clients s.state.facts
+      → JoinsBehind clients s s1 batch (Err e) o o1 → TakesSo clients session r s s1 [] (Err e)
+  not_taken_so fault.Closed o o1 settled joins = absurd joins
+  not_taken_so fault.Full o o1 settled joins =
+      let same : its ≡ take_batch s1.state.facts session (next_on s session) r =
+      ap (λ (f : Facts). take_batch f session (next_on s session) r) (sym joins.1.facts) in
+      let sum : needed s1 (take_batch s1.state.facts session (next_on s session) r)
+      ≡ needed s batch =
+      ap (needed s1) (sym same ∙ sym is_its) ∙ needed_stays s s1 batch joins.1 in (
+        joins.2,
+        subst (IsSettled clients) (sym joins.1.facts) settled,
+        refl,
+        omega (arith, sum, joins.1.limit, joins.0),
+      )
+  not_taken_so fault.Memory o o1 settled joins = (joins.2, inl refl)
+  not_taken_so fault.DiskFault o o1 settled joins = (joins.1, inl refl)
 
-  added : (b : List Entry) (rest : List (List Entry)) → AddsBatch clients s.state.facts batch
-      (b ∷ rest) → Record_taken
-      (b ∷ rest)
-  added b rest adds = record {
-    settling = rest;
-    is = ap (λ (x : List Entry). x ∷ rest) (adds.0 ∙ is_its);
-    settles = subst (λ (x : List Entry). AllSettling clients (after_all s.state.facts x) rest)
-        is_its adds.1;
+  not_taken_by : (e : StoreFault) (o o1 : Outside) → IsSettled clients s.state.facts
+      → DiskRun o o1 → JoinsBehind clients s s1 batch (Err e) o o1
+      → HasTakenRecord clients session r s s1 (Err e) o o1
+  not_taken_by e o o1 settled run joins = record {
+    more = [];
+    comes = comes_joined clients s s1 batch (Err e) o o1 run joins;
+    answer = not_taken_so e o o1 settled joins;
   }
 
-  some_added : (more : List (List Entry)) → AddsBatch clients s.state.facts batch more
-      → (more ≡ []) ⊎ Record_taken more
-  some_added [] adds = inl refl
-  some_added (b ∷ rest) adds = inr (added b rest adds)
+  module _ (s' : StoreValue) (u : Unit {0}) (result : Result (Unit {0}) StoreFault)
+      (o o1 o' : Outside) (run : DiskRun o o1) (joins : JoinsBehind clients s s1 batch (Ok u) o o1)
+      (gathering : IsGathering clients s1 o1.files) (run' : DiskRun o1 o')
+      (steps : SettlesBehind clients s1 s' result o1 o') where
+    comes_taken : ComesBehind clients s s' o o' (batch ∷ steps.more)
+    comes_taken =
+        comes_then clients s s1 s' o o1 o' (batch ∷ []) steps.more joins.1.closed
+        (comes_joined clients s s1 batch (Ok u) o o1 run joins)
+        (comes_steps clients s1 s' result o1 o' run' gathering steps)
 
-  all_added : (more : List (List Entry)) → AddsBatch clients s.state.facts batch more → more ≢ []
-      → Record_taken more
-  all_added [] adds some = absurd (some refl)
-  all_added (b ∷ rest) adds some = added b rest adds
+    one : TakesRecord clients s.state.facts session (next_on s session) r (batch ∷ steps.more)
+    one = record {
+      settling = steps.more;
+      is = ap (λ (x : List Entry). x ∷ steps.more) is_its;
+      settles =
+          subst (λ (x : List Entry). AllSettling clients (after_all s.state.facts x) steps.more)
+          is_its
+          (subst (λ (f : Facts). AllSettling clients f steps.more) joins.1.facts
+          steps.steps.settling);
+    }
 
-  taken_so : (allowed : Allowed clients s.state.facts batch) (opened : s.closed ≡ false)
-      (settled : IsSettled clients s.state.facts) (more : List (List Entry))
-      (result : Result (Unit {0}) StoreFault)
-      → (s'.closed ≡ false → s'.state.facts ≡ after_batches s.state.facts more)
-      → AddsBatch clients s.state.facts batch more
-      → ExtendsSo clients s s' batch more result → TakesSo clients session r s s' more result
-  taken_so allowed opened settled more (Ok u) facts adds so =
-      let one : Record_taken more = all_added more adds so.2 in
-      let may : Allowed clients s.state.facts its =
-      subst (λ (b : List Entry). Allowed clients s.state.facts b)
-      is_its allowed in (
-        so.0,
-        so.3,
-        one,
-        ap (λ (f : Facts). takes_of f.takes session) (facts so.0)
-            ∙ count_more clients s.state.facts session
-            (next_on s session) r more may one,
-      )
-  taken_so allowed opened settled more (Err fault.Closed) facts adds so = absurd so
-  taken_so allowed opened settled more (Err fault.Full) facts adds so =
-      let stays : KeepsStore s s' = so.2 in
-      let same : its ≡ take_batch s'.state.facts session (next_on s session) r =
-      ap (λ (f : Facts). take_batch f session (next_on s session) r) (sym stays.facts) in
-      let sum : needed s' (take_batch s'.state.facts session (next_on s session) r)
-      ≡ needed s batch =
-      ap (needed s') (sym same ∙ sym is_its) ∙ needed_stays s s' batch stays in (
-        stays.closed ∙ opened,
-        subst (IsSettled clients) (sym stays.facts) settled,
-        so.1,
-        omega (arith, sum, stays.limit, so.0),
-      )
-  taken_so allowed opened settled more (Err fault.Memory) facts adds so =
-      (so.0, some_added more adds)
-  taken_so allowed opened settled more (Err fault.DiskFault) facts adds so =
-      (so.0, some_added more adds)
+    taken_so : Allowed clients s.state.facts batch → (a : Result (Unit {0}) StoreFault)
+        → SettlesSo clients s' a → TakesSo clients session r s s' (batch ∷ steps.more) a
+    taken_so allowed (Ok v) so =
+        let may : Allowed clients s.state.facts its =
+        subst (λ (b : List Entry). Allowed clients s.state.facts b) is_its allowed in (
+          so.0,
+          so.1,
+          one,
+          ap (λ (f : Facts). takes_of f.takes session) (comes_taken.facts so.0)
+              ∙ count_more clients s.state.facts session (next_on s session) r
+              (batch ∷ steps.more) may one,
+        )
+    taken_so allowed (Err fault.Closed) so = absurd so
+    taken_so allowed (Err fault.Full) so = absurd so
+    taken_so allowed (Err fault.Memory) so = (so, inr one)
+    taken_so allowed (Err fault.DiskFault) so = (so, inr one)
+
+    taken_by : Allowed clients s.state.facts batch
+        → HasTakenRecord clients session r s s' result o o'
+    taken_by allowed = record {
+      more = batch ∷ steps.more;
+      comes = comes_taken;
+      answer = taken_so allowed result (steps_answer clients s1 s' result o1 o' steps);
+    }
 
 -- the batch of a record may follow
 pub take_may : (clients : Meaning) (session : Session) (k : ℕ) (r : Record) (s : StoreValue)
@@ -163,33 +178,34 @@ take_may clients session k r s o batch able within numbered is =
 
 -- no memory was found for it
 pub taken_starved : ImagesStand → (clients : Meaning) (session : Session) (r : Record)
-    (s : StoreValue) (o : Outside)
-    → IsOpenFor clients session s o
+    (s : StoreValue) (o : Outside) → IsOpenFor clients session s o
     → HasTakenRecord clients session.number r s s (Err fault.Memory) o o
 taken_starved images clients session r s o able = record {
   more = [];
-  comes = comes_none images clients s o able.is_store;
-  answer = (able.ready.still_open, inl refl);
+  comes = comes_none clients images s o able.gathering.still_open;
+  answer = (able.gathering.still_open, inl refl);
 }
 
--- a record was taken by a batch that was committed with its settling
-pub has_taken : (clients : Meaning) (session : Session) (k : ℕ) (r : Record) (s s' : StoreValue)
-    (batch : List Entry)
-    (o o' : Outside)
-    (result : Result (Unit {0}) StoreFault) → IsOpenFor clients session s o
-    → k ≡ next_on s session.number → batch
-    ≡ take_of s.state.facts session k r
-    → Allowed clients s.state.facts batch → HasExtended clients s s' batch result o o'
-    → HasTakenRecord clients session.number r s s' result o o'
-has_taken clients session k r s s' batch o o' result able numbered is allowed has = record {
-  more = has.more;
-  comes = comes_extended clients s s' batch result o o' has;
-  answer =
-      taken_so clients session.number k r s s' batch numbered (is
-      ∙ next_is s.state.facts session k r able.found)
-      allowed
-      able.ready.still_open able.settled has.more result has.runs.facts has.adds has.answer;
-}
+module _ (clients : Meaning) (session : Session) (k : ℕ) (r : Record) (s s1 : StoreValue)
+    (batch : List Entry) (o o1 : Outside) (able : IsOpenFor clients session s o)
+    (numbered : k ≡ next_on s session.number) (is : batch ≡ take_of s.state.facts session k r) where
+  -- its batch did not join those that wait
+  pub not_taken : (e : StoreFault) → DiskRun o o1 → JoinsBehind clients s s1 batch (Err e) o o1
+      → HasTakenRecord clients session.number r s s1 (Err e) o o1
+  not_taken e run joins =
+      not_taken_by clients session.number k r s s1 batch numbered
+      (is ∙ next_is s.state.facts session k r able.found) e o o1 able.settled run joins
+
+  -- it joined them, and its settling behind it
+  pub has_taken : (s' : StoreValue) (u : Unit {0}) (result : Result (Unit {0}) StoreFault)
+      (o' : Outside) → DiskRun o o1 → JoinsBehind clients s s1 batch (Ok u) o o1
+      → IsGathering clients s1 o1.files → Allowed clients s.state.facts batch → DiskRun o1 o'
+      → SettlesBehind clients s1 s' result o1 o'
+      → HasTakenRecord clients session.number r s s' result o o'
+  has_taken s' u result o' run joins gathering allowed run' steps =
+      taken_by clients session.number k r s s1 batch numbered
+      (is ∙ next_is s.state.facts session k r able.found) s' u result o o1 o' run joins gathering
+      run' steps allowed
 
 -- the session goes on behind batches
 pub found_later : (f g : Facts) (more : List (List Entry)) (session : Session)
@@ -201,30 +217,24 @@ found_later f g more session is found =
     ((continues_batches f more).same_session session.number session found)
 
 pub still_able : (clients : Meaning) (session : Session) (s s' : StoreValue) (o o' : Outside)
-    (more : List (List Entry))
-    → IsOpenFor clients session s o
-    → StoreComesTo clients s s' o o' more → s'.closed ≡ false
-    → (s'.closed ≡ false → IsReady clients s' o'.files)
-    → IsStore s' → IsSettled clients s'.state.facts
+    (more : List (List Entry)) → IsOpenFor clients session s o
+    → ComesBehind clients s s' o o' more → s'.closed ≡ false
+    → (s'.closed ≡ false → IsGathering clients s' o'.files) → IsSettled clients s'.state.facts
     → IsOpenFor clients session s' o'
-still_able clients session s s' o o' more able comes opened ready store settled = record {
-  ready = ready opened;
-  is_store = store;
+still_able clients session s s' o o' more able comes opened gathering settled = record {
+  gathering = gathering opened;
   settled = settled;
-  found =
-      found_later s.state.facts s'.state.facts more session (comes.runs.facts opened) able.found;
+  found = found_later s.state.facts s'.state.facts more session (comes.facts opened) able.found;
 }
 
 pub able_taken : (clients : Meaning) (session : Session) (r : Record) (s s' : StoreValue)
-    (o o' : Outside)
-    (result : Result (Unit {0}) StoreFault)
-    → IsOpenFor clients session s o → HasTakenRecord clients session.number r s s' result o o' →
-    (s'.closed ≡ false → IsReady clients s' o'.files) → IsStore s'
+    (o o' : Outside) (result : Result (Unit {0}) StoreFault) → IsOpenFor clients session s o
+    → HasTakenRecord clients session.number r s s' result o o'
+    → (s'.closed ≡ false → IsGathering clients s' o'.files)
     → OnOk result (IsOpenFor clients session s' o')
-able_taken clients session r s s' o o' (Ok u) able has ready store =
-    still_able clients session s s' o o' has.more able has.comes has.answer.0 ready store
-    has.answer.1
-able_taken clients session r s s' o o' (Err e) able has ready store = tt
+able_taken clients session r s s' o o' (Ok u) able has gathering =
+    still_able clients session s s' o o' has.more able has.comes has.answer.0 gathering has.answer.1
+able_taken clients session r s s' o o' (Err e) able has gathering = tt
 
 -- ---- many records
 

@@ -1,3 +1,4 @@
+pub mod Together
 pub mod Taking
 pub mod Files
 pub mod Reading

@@ -13,7 +13,7 @@ use Rattle.sync_store.specs.Store.{StoreValue}
 use Rattle.mailbox_laws.specs.Boxes.{box_session}
 use Rattle.mailbox_core.specs.declared.ends.BoxEnd.{BoxEnd}
 use Rattle.mailbox_core.specs.Files.{box_ending, box_records}
-use Rattle.sync_store.specs.Rooms.{StoreComesTo}
+use Rattle.mailbox_core.specs.Together.{ComesInGroups}
 use Rattle.mailbox_core.specs.Taking.{AllTaken, BeginsThen, NoRoomFor, SomeTaken, TakesTo}
 use Rattle.mailbox_core.specs.Taking.{first_batch}
 
@@ -42,8 +42,7 @@ ReadsUntilFull clients contact f s records more =
     ⊎ ReadsTo clients contact (NoRoomFor f.begun s) f records more
 
 -- By the answer: the batches behind a journal of facts `f`, and the store then. It is not closed
--- but after DiskFault; then the
--- last batch may stand in the files or not.
+-- but after DiskFault; then the batches of the last group may stand in the files or not.
 abbrev pub ReadsSo : Meaning → ℕ → List ℕ → Facts → StoreValue → List (List Entry)
     → Result BoxEnd StoreFault → Type 0
 ReadsSo clients contact bytes f s more (Ok end) =
@@ -59,10 +58,11 @@ ReadsSo clients contact bytes f s more (Err fault.Memory) =
 ReadsSo clients contact bytes f s more (Err fault.DiskFault) =
     (s.closed ≡ true) × ReadsSome clients contact f (box_records bytes) more
 
--- a file of these bytes was read into a store that is not closed
+-- a file of these bytes was read into a store that is not closed: its batches were added in as few
+-- groups as their frames take
 pub record HasReadBox (clients : Meaning) (contact : ℕ) (bytes : List ℕ) (s s' : StoreValue)
     (result : Result BoxEnd StoreFault)
     (o o' : Outside) : Type 0 where
   pub more : List (List Entry)
-  pub comes : StoreComesTo clients s s' o o' more
+  pub adds : ComesInGroups clients s s' o o' more
   pub answer : ReadsSo clients contact bytes s.state.facts s' more result

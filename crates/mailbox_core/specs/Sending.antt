@@ -19,7 +19,7 @@ use Rattle.sync_store.specs.declared.fault.StoreFault.{StoreFault}
 use Rattle.sync_store.specs.declared.fault.StoreFault.TheVariants as fault
 use Rattle.sync_store.specs.Commits.{needed}
 use Rattle.sync_store.specs.Store.{StoreValue}
-use Rattle.sync_store.specs.Rooms.{StoreComesTo}
+use Rattle.mailbox_core.specs.Together.{ComesInGroups}
 use Rattle.mailbox_core.specs.Taking.{BeginsThen, first_batch}
 
 -- ---- outputs
@@ -86,10 +86,8 @@ WritesUntilFull clients contact latency now count f s more =
     (λ g rest. SendsUntilFull clients g s f.begun now count rest)
 
 -- By the answer: the batches behind a journal of facts `f`, the store then, and the bytes. After a
--- fault these are as before; else
--- all that the session sends is appended. The store is not closed but after DiskFault; then the
--- last batch may stand in the files
--- or not.
+-- fault these are as before; else all that the session sends is appended. The store is not closed
+-- but after DiskFault; then the batches of the last group may stand in the files or not.
 abbrev pub WritesSo : Meaning → ℕ → ℕ → ℕ → ℕ → Facts → StoreValue → List (List Entry) → List ℕ
     → List ℕ
     → Result ℕ StoreFault → Type 0
@@ -108,10 +106,11 @@ WritesSo clients contact latency now count f s more to to' (Err fault.Memory) =
 WritesSo clients contact latency now count f s more to to' (Err fault.DiskFault) =
     (s.closed ≡ true) × WritesSome clients contact latency now count f more × (to' ≡ to)
 
--- a file was written from a store that is not closed
+-- a file was written from a store that is not closed: its batches were added in as few groups as
+-- their frames take
 pub record HasWrittenBox (clients : Meaning) (contact latency now count : ℕ) (s s' : StoreValue)
     (to to' : List ℕ)
     (result : Result ℕ StoreFault) (o o' : Outside) : Type 0 where
   pub more : List (List Entry)
-  pub comes : StoreComesTo clients s s' o o' more
+  pub adds : ComesInGroups clients s s' o o' more
   pub answer : WritesSo clients contact latency now count s.state.facts s' more to to' result

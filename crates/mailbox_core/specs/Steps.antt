@@ -1,5 +1,5 @@
--- What the steps of reading and of writing a file do; they are put together into what `Reading` and
--- `Sending` say of the whole.
+-- What the steps of reading and of writing a file do, each of which gathers its batches; they are put
+-- together into what `Reading` and `Sending` say of the whole.
 use Rattle.std.specs.Prelude.{◌≡◌, ◌⊎◌, ℕ, ◌+◌, ◌<◌, true, false, Bool, List, [], ◌∷◌, ◌++◌, length}
 use Rattle.std.specs.Prelude.{Option, Some, None, Result, Ok, Err}
 use Rattle.outside.specs.Outside.{Outside}
@@ -18,35 +18,26 @@ use Rattle.sync_rules.specs.Steps.{IsSettled}
 use Rattle.sync_rules.specs.Hearing.{take_batch, batch_session}
 use Rattle.sync_store.specs.declared.fault.StoreFault.{StoreFault}
 use Rattle.sync_store.specs.declared.fault.StoreFault.TheVariants as fault
-use Rattle.sync_store.specs.Commits.{AnswersCommit, needed}
-use Rattle.sync_store.specs.Ready.{IsReady}
-use Rattle.sync_store.specs.Runs.{committed_by}
-use Rattle.sync_store.specs.Store.{IsStore, StoreValue}
+use Rattle.sync_store.specs.Commits.{needed}
+use Rattle.sync_store.specs.Groups.{IsGathering}
+use Rattle.sync_store.specs.Store.{StoreValue}
+use Rattle.mailbox_core.specs.Together.{ComesInGroups, ComesBehind}
 use Rattle.sync_course.specs.LinkTurns.{out_batch}
 use Rattle.mailbox_core.specs.declared.ends.BoxEnd.{BoxEnd}
 use Rattle.mailbox_core.specs.declared.ends.BoxEnding.{BoxEnding}
 use Rattle.mailbox_core.specs.Files.{ending_behind, records_to_take}
-use Rattle.sync_store.specs.Rooms.{StoreComesTo}
+use Rattle.mailbox_core.specs.Reading.{ReadsSo}
 use Rattle.mailbox_core.specs.Sending.{IsSessionQuiet, SendsAll, SendsSome, SendsUntilFull}
+use Rattle.mailbox_core.specs.Sending.{WritesSo}
 use Rattle.mailbox_core.specs.Taking.{AllTaken, NoRoomFor, SomeTaken, TakesRecord, TakesTo}
 use Rattle.mailbox_core.specs.Taking.{first_batch}
 
--- a settled store that is ready and has this session
+-- a settled store that gathers and has this session
 pub record IsOpenFor (clients : Meaning) (session : Session) (s : StoreValue)
     (o : Outside) : Type 0 where
-  pub ready : IsReady clients s o.files
-  pub is_store : IsStore s
+  pub gathering : IsGathering clients s o.files
   pub settled : IsSettled clients s.state.facts
   pub found : session_at s.state.facts.sessions session.number ≡ Some session
-
--- ---- one batch
-
--- a batch was committed, as far as the answer says
-pub record HasCommitted (clients : Meaning) (s s' : StoreValue) (batch : List Entry)
-    (result : Result (Unit {0}) StoreFault)
-    (o o' : Outside) : Type 0 where
-  pub comes : StoreComesTo clients s s' o o' (committed_by batch result)
-  pub answer : AnswersCommit s s' batch result
 
 -- ---- a session begins
 
@@ -60,15 +51,14 @@ BeginsSo contact latency f s more (Err fault.Full) =
     (s.closed ≡ false) × (more ≡ [])
     × (s.limit < needed s (first_batch (batch_session f.begun contact latency)))
 BeginsSo contact latency f s more (Err fault.Memory) = (s.closed ≡ false) × (more ≡ [])
-BeginsSo contact latency f s more (Err fault.DiskFault) =
-    (s.closed ≡ true) × (more ≡ first_batch (batch_session f.begun contact latency) ∷ [])
+BeginsSo contact latency f s more (Err fault.DiskFault) = (s.closed ≡ true) × (more ≡ [])
 
 -- a session was begun, as far as the answer says
 pub record HasBegunSession (clients : Meaning) (contact latency : ℕ) (s s' : StoreValue)
     (result : Result Session StoreFault)
     (o o' : Outside) : Type 0 where
   pub more : List (List Entry)
-  pub comes : StoreComesTo clients s s' o o' more
+  pub comes : ComesBehind clients s s' o o' more
   pub answer : BeginsSo contact latency s.state.facts s' more result
 
 -- ---- one record
@@ -100,7 +90,7 @@ pub record HasTakenRecord (clients : Meaning) (session : ℕ) (r : Record) (s s'
     (result : Result (Unit {0}) StoreFault)
     (o o' : Outside) : Type 0 where
   pub more : List (List Entry)
-  pub comes : StoreComesTo clients s s' o o' more
+  pub comes : ComesBehind clients s s' o o' more
   pub answer : TakesSo clients session r s s' more result
 
 -- ---- what is left of a file
@@ -160,7 +150,7 @@ pub record HasReadItem (clients : Meaning) (session : ℕ) (s s' : StoreValue)
     (left left' : RecordsLeft)
     (result : Result (Option BoxEnding) StoreFault) (o o' : Outside) : Type 0 where
   pub more : List (List Entry)
-  pub comes : StoreComesTo clients s s' o o' more
+  pub comes : ComesBehind clients s s' o o' more
   pub answer : NextSo clients session s s' left left' more result
 
 abbrev pub RestSo : Meaning → ℕ → StoreValue → StoreValue → RecordsLeft → List (List Entry)
@@ -176,12 +166,20 @@ pub record HasReadRest (clients : Meaning) (session : ℕ) (s s' : StoreValue) (
     (result : Result BoxEnd StoreFault)
     (o o' : Outside) : Type 0 where
   pub more : List (List Entry)
-  pub comes : StoreComesTo clients s s' o o' more
+  pub comes : ComesBehind clients s s' o o' more
   pub answer : RestSo clients session s s' left more result
+
+-- a file was read; what was taken of it waits
+pub record HasGatheredBox (clients : Meaning) (contact : ℕ) (bytes : List ℕ) (s s' : StoreValue)
+    (result : Result BoxEnd StoreFault)
+    (o o' : Outside) : Type 0 where
+  pub more : List (List Entry)
+  pub comes : ComesBehind clients s s' o o' more
+  pub answer : ReadsSo clients contact bytes s.state.facts s' more result
 
 -- ---- one output
 
--- this output is due, and is committed
+-- this output is due, and its batch is made
 pub record CommitsDue (clients : Meaning) (f : Facts) (session now : ℕ)
     (more : List (List Entry)) : Type 0 where
   pub what : Out
@@ -208,14 +206,14 @@ PutsSo clients session now s s' more to to' (Err fault.Full) =
     × LacksRoomForOut clients session now s'
 PutsSo clients session now s s' more to to' (Err fault.Memory) = (s'.closed ≡ false) × (more ≡ [])
 PutsSo clients session now s s' more to to' (Err fault.DiskFault) =
-    (s'.closed ≡ true) × CommitsDue clients s.state.facts session now more
+    (s'.closed ≡ true) × (more ≡ [])
 
--- what is due was committed, as far as the answer says, and its bytes appended
+-- what is due was gathered, as far as the answer says, and its bytes appended
 pub record HasPut (clients : Meaning) (session now : ℕ) (s s' : StoreValue) (to to' : List ℕ)
     (result : Result Bool StoreFault)
     (o o' : Outside) : Type 0 where
   pub more : List (List Entry)
-  pub comes : StoreComesTo clients s s' o o' more
+  pub comes : ComesBehind clients s s' o o' more
   pub answer : PutsSo clients session now s s' more to to' result
 
 abbrev pub PutsAllSo : Meaning → ℕ → ℕ → ℕ → StoreValue → StoreValue → List (List Entry) → List ℕ
@@ -234,11 +232,37 @@ PutsAllSo clients session now most s s' more to to' (Err fault.Memory) =
 PutsAllSo clients session now most s s' more to to' (Err fault.DiskFault) =
     (s'.closed ≡ true) × SendsSome clients s.state.facts session now most more
 
--- all that is due was committed, at most so many outputs, as far as the answer says
+-- all that is due was gathered, at most so many outputs, as far as the answer says
 pub record HasPutAll (clients : Meaning) (session now most : ℕ) (s s' : StoreValue)
     (to to' : List ℕ)
     (result : Result ℕ StoreFault)
     (o o' : Outside) : Type 0 where
   pub more : List (List Entry)
-  pub comes : StoreComesTo clients s s' o o' more
+  pub comes : ComesBehind clients s s' o o' more
   pub answer : PutsAllSo clients session now most s s' more to to' result
+
+-- ---- a file that is written
+
+-- by the answer, as a file is written behind no bytes; after a fault nothing is said of the bytes
+abbrev pub PutsBoxSo : Meaning → ℕ → ℕ → ℕ → ℕ → Facts → StoreValue → List (List Entry) → List ℕ
+    → Result ℕ StoreFault → Type 0
+PutsBoxSo clients contact latency now count f s more to (Ok made) =
+    WritesSo clients contact latency now count f s more [] to (Ok made)
+PutsBoxSo clients contact latency now count f s more to (Err e) =
+    WritesSo clients contact latency now count f s more [] [] (Err e)
+
+-- the session began and what is due was gathered, as far as the answer says
+pub record HasPutBox (clients : Meaning) (contact latency now count : ℕ) (s s' : StoreValue)
+    (to : List ℕ)
+    (result : Result ℕ StoreFault) (o o' : Outside) : Type 0 where
+  pub more : List (List Entry)
+  pub comes : ComesBehind clients s s' o o' more
+  pub answer : PutsBoxSo clients contact latency now count s.state.facts s' more to result
+
+-- and all of it was added to the journal
+pub record HasAddedBox (clients : Meaning) (contact latency now count : ℕ) (s s' : StoreValue)
+    (to : List ℕ)
+    (result : Result ℕ StoreFault) (o o' : Outside) : Type 0 where
+  pub more : List (List Entry)
+  pub adds : ComesInGroups clients s s' o o' more
+  pub answer : PutsBoxSo clients contact latency now count s.state.facts s' more to result

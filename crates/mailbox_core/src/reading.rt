@@ -4,11 +4,13 @@ ghost use Rattle.outside.specs.Faults.{CountRose};
 ghost use Rattle.outside.specs.Outside.{DiskRun};
 ghost use Rattle.sync_rules.specs.declared.limits.TheConstants.{MAX_SESSIONS};
 ghost use Rattle.sync_rules.specs.Steps.{IsSettled};
+ghost use Rattle.sync_store.specs.Groups.{IsGathering};
 ghost use Rattle.sync_store.specs.Ready.{IsReady};
 ghost use Rattle.sync_store.specs.Store.{IsStore};
 ghost use Rattle.sync_course.specs.Links.{closes};
 ghost use Rattle.mailbox_core.specs.Reading.{HasReadBox};
-ghost use Rattle.mailbox_core.specs.Steps.{HasReadItem, HasReadRest, HasTakenRecord, IsOpenFor, left_of};
+ghost use Rattle.mailbox_core.specs.Steps.{HasGatheredBox, HasReadItem, HasReadRest, HasTakenRecord};
+ghost use Rattle.mailbox_core.specs.Steps.{IsOpenFor, left_of};
 
 use crate::ends::{BoxEnd, BoxEnding, ends_as};
 use crate::steps::begin;
@@ -25,11 +27,12 @@ use sync_store::{Store, StoreFault};
 const LATENCY: u32 = 1;
 
 /// Reads a file of records from a contact into a settled store: a batch session begins, and each
-/// record is taken on it, with settling behind it. A VERSIONS without version 0 is taken, and
-/// nothing behind it. `Closed` comes exactly where an earlier call answered `DiskFault`, and then
-/// nothing is done. `Full` comes exactly where the session, or the next record, finds no room: the
-/// journal, the frame and the room that settling may then need pass the limit. After `Full` and
-/// `Memory` the store is extended by what was committed before; after `DiskFault` it is closed.
+/// record is taken on it, with settling behind it. All of it is added to the journal in groups, as
+/// few as the frames take. A VERSIONS without version 0 is taken, and nothing behind it. `Closed`
+/// comes exactly where an earlier call answered `DiskFault`, and then nothing is done. `Full` comes
+/// exactly where the session, or the next record, finds no room: the journal, the frame and the room
+/// that settling may then need pass the limit. After `Full` and `Memory` the store is extended by
+/// what was taken before; after `DiskFault` it is closed.
 pub fn read_box<D: Disk, C: Clients>(
     alloc: Global,
     store: &mut Store,
@@ -56,6 +59,37 @@ pub fn read_box<D: Disk, C: Clients>(
     if store.is_closed() {
         return Err(StoreFault::Closed);
     }
+    images_stand();
+    let read = gather_box(alloc, store, disk, clients, contact, bytes);
+    if store.is_closed() {
+        return read;
+    }
+    store.flush(disk, clients)?;
+    read
+}
+
+// Takes the records of a file on a session of their own. What was taken waits, whatever the answer
+// is.
+fn gather_box<D: Disk, C: Clients>(
+    alloc: Global,
+    store: &mut Store,
+    disk: &mut D,
+    clients: &C,
+    contact: u8,
+    bytes: &[u8],
+) -> Result<BoxEnd, StoreFault>
+    requires gathering { IsGathering (C.meaning clients.now) store.old (D.tells disk.old).files }
+    requires settled { IsSettled (C.meaning clients.now) store.old.state.facts }
+    requires known { contact < store.old.state.facts.contacts }
+    requires few { store.old.state.facts.begun < MAX_SESSIONS }
+    ensures read { HasGatheredBox (C.meaning clients.now) contact bytes.now store.old store.new result
+        (D.tells disk.old) (D.tells disk.new) }
+    ensures gathering { store.new.closed ≡ false
+        → IsGathering (C.meaning clients.now) store.new (D.tells disk.new).files }
+    ensures is_store { IsStore store.new }
+    ensures fault { IsErrOf result StoreFault.DiskFault
+        → CountRose (D.tells disk.old).disk_faults (D.tells disk.new).disk_faults }
+{
     images_stand();
     let mut reader = Reader::new(alloc)?;
     let session = begin(alloc, store, disk, clients, contact, LATENCY)?;
@@ -84,8 +118,8 @@ fn take_all<D: Disk, C: Clients>(
     requires able { IsOpenFor (C.meaning clients.now) session.now store.old (D.tells disk.old) }
     ensures read { HasReadRest (C.meaning clients.now) session.now.number store.old store.new
         (left_of reader.old piece.old) result (D.tells disk.old) (D.tells disk.new) }
-    ensures ready { store.new.closed ≡ false
-        → IsReady (C.meaning clients.now) store.new (D.tells disk.new).files }
+    ensures gathering { store.new.closed ≡ false
+        → IsGathering (C.meaning clients.now) store.new (D.tells disk.new).files }
     ensures is_store { IsStore store.new }
     ensures fault { IsErrOf result StoreFault.DiskFault
         → CountRose (D.tells disk.old).disk_faults (D.tells disk.new).disk_faults }
@@ -119,8 +153,8 @@ fn take_next<D: Disk, C: Clients>(
         (D.tells disk.new)) }
     ensures left { IfOk result (λ ending. ending ≡ None → length reader.new.bytes + length piece.new
         < length reader.old.bytes + length piece.old) }
-    ensures ready { store.new.closed ≡ false
-        → IsReady (C.meaning clients.now) store.new (D.tells disk.new).files }
+    ensures gathering { store.new.closed ≡ false
+        → IsGathering (C.meaning clients.now) store.new (D.tells disk.new).files }
     ensures is_store { IsStore store.new }
     ensures fault { IsErrOf result StoreFault.DiskFault
         → CountRose (D.tells disk.old).disk_faults (D.tells disk.new).disk_faults }
@@ -151,7 +185,7 @@ fn is_foreign(rec: &Record) -> bool
     }
 }
 
-// Takes a record, and settles the journal behind it.
+// Takes a record, and makes the steps behind it; both wait.
 fn take_one<D: Disk, C: Clients>(
     alloc: Global,
     store: &mut Store,
@@ -165,8 +199,8 @@ fn take_one<D: Disk, C: Clients>(
         result (D.tells disk.old) (D.tells disk.new) }
     ensures able { OnOk result (IsOpenFor (C.meaning clients.now) session.now store.new
         (D.tells disk.new)) }
-    ensures ready { store.new.closed ≡ false
-        → IsReady (C.meaning clients.now) store.new (D.tells disk.new).files }
+    ensures gathering { store.new.closed ≡ false
+        → IsGathering (C.meaning clients.now) store.new (D.tells disk.new).files }
     ensures is_store { IsStore store.new }
     ensures fault { IsErrOf result StoreFault.DiskFault
         → CountRose (D.tells disk.old).disk_faults (D.tells disk.new).disk_faults }
@@ -175,5 +209,6 @@ fn take_one<D: Disk, C: Clients>(
     records_are_within(&rec);
     let k = store.state().takes(session.number);
     let (batch, id) = take_known(alloc, store, session, k, rec)?;
-    store.extend_known(disk, clients, batch, id)
+    store.gather_known(disk, clients, batch, id)?;
+    store.gather_settling(disk, clients)
 }

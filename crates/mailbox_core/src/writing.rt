@@ -1,15 +1,17 @@
 //! A file that is written from a store.
-ghost use Rattle.std.specs.Prelude.{◌≡◌, ◌<◌, ◌≤◌, Err, false, true, IfOk, IsErrOf, OnOk};
+ghost use Rattle.std.specs.Prelude.{◌≡◌, ◌∷◌, ◌<◌, ◌≤◌, [], Err, false, true, IfOk, IsErrOf, OnOk};
 ghost use Rattle.outside.specs.Faults.{CountRose};
-ghost use Rattle.outside.specs.Outside.{DiskRun};
+ghost use Rattle.record_grammar.specs.Spelling.{spelling};
+ghost use Rattle.sync_ids.specs.declared.records.Record.TheVariants as record_kind;
 ghost use Rattle.sync_rules.specs.declared.limits.TheConstants.{MAX_SESSIONS};
 ghost use Rattle.sync_rules.specs.Steps.{IsSettled};
+ghost use Rattle.sync_store.specs.Groups.{IsGathering};
 ghost use Rattle.sync_store.specs.Ready.{IsReady};
 ghost use Rattle.sync_store.specs.Store.{IsStore};
 ghost use Rattle.mailbox_core.specs.Sending.{HasWrittenBox};
-ghost use Rattle.mailbox_core.specs.Steps.{HasPut, HasPutAll, IsOpenFor};
+ghost use Rattle.mailbox_core.specs.Steps.{HasAddedBox, HasPut, HasPutAll, HasPutBox, IsOpenFor};
 
-use crate::steps::{begin, commit};
+use crate::steps::begin;
 use output_spelling::{spell_out, spell_versions};
 use outside::Disk;
 use std::alloc::Global;
@@ -20,8 +22,9 @@ use sync_store::{Store, StoreFault};
 
 /// Writes a file for a contact from a settled store: a batch session of this latency begins, and
 /// what is due on it at this time, in milliseconds, is committed until nothing is due or so many
-/// outputs were made. It answers their number, and appends the bytes of all that the session sends:
-/// its VERSIONS, and a record for each output. `Closed` comes exactly where an earlier call answered
+/// outputs were made. All of it is added to the journal in groups, as few as the frames take. Then it
+/// answers their number, and appends the bytes of all that the session sends: its VERSIONS, and a
+/// record for each output. `Closed` comes exactly where an earlier call answered
 /// `DiskFault`, and then nothing is done. `Full` comes exactly where the session, or the next
 /// output, finds no room: the journal, the frame and the room that settling may then need pass the
 /// limit. After `Full` and `Memory` the store is extended by what was committed before; after
@@ -59,15 +62,84 @@ pub fn write_box<D: Disk, C: Clients>(
     }
     images_stand();
     let mut bytes = spell_versions(alloc)?;
-    let session = begin(alloc, store, disk, clients, contact, latency)?;
-    let made = put_all(
-        alloc, store, disk, clients, &session, now, count, &mut bytes,
+    let made = put_added(
+        alloc, store, disk, clients, contact, latency, now, count, &mut bytes,
     )?;
     to.extend_from_slice(bytes.as_slice())?;
     Ok(made)
 }
 
-// Commits what is due on a session, at most so many outputs, and adds their bytes.
+// Begins a session, and commits what is due on it, behind the bytes of its VERSIONS. Its batches are
+// added to the journal before it answers, so that no byte of theirs goes out before them.
+fn put_added<D: Disk, C: Clients>(
+    alloc: Global,
+    store: &mut Store,
+    disk: &mut D,
+    clients: &C,
+    contact: u8,
+    latency: u32,
+    now: u64,
+    count: u32,
+    to: &mut Vec<u8>,
+) -> Result<u32, StoreFault>
+    requires ready { IsReady (C.meaning clients.now) store.old (D.tells disk.old).files }
+    requires is_store { IsStore store.old }
+    requires settled { IsSettled (C.meaning clients.now) store.old.state.facts }
+    requires known { contact < store.old.state.facts.contacts }
+    requires few { store.old.state.facts.begun < MAX_SESSIONS }
+    requires latency { 1 ≤ latency }
+    requires versions { to.old.items ≡ spelling (record_kind.Versions (0 ∷ [])) }
+    ensures put { HasAddedBox (C.meaning clients.now) contact latency now count store.old store.new
+        to.new.items result (D.tells disk.old) (D.tells disk.new) }
+    ensures ready { store.new.closed ≡ false
+        → IsReady (C.meaning clients.now) store.new (D.tells disk.new).files }
+    ensures is_store { IsStore store.new }
+    ensures fault { IsErrOf result StoreFault.DiskFault
+        → CountRose (D.tells disk.old).disk_faults (D.tells disk.new).disk_faults }
+{
+    images_stand();
+    let made = put_box(
+        alloc, store, disk, clients, contact, latency, now, count, to,
+    );
+    if store.is_closed() {
+        return made;
+    }
+    store.flush(disk, clients)?;
+    made
+}
+
+// Begins a session, and gathers what is due on it, behind the bytes of its VERSIONS. What was
+// gathered waits, whatever the answer is.
+fn put_box<D: Disk, C: Clients>(
+    alloc: Global,
+    store: &mut Store,
+    disk: &mut D,
+    clients: &C,
+    contact: u8,
+    latency: u32,
+    now: u64,
+    count: u32,
+    to: &mut Vec<u8>,
+) -> Result<u32, StoreFault>
+    requires gathering { IsGathering (C.meaning clients.now) store.old (D.tells disk.old).files }
+    requires settled { IsSettled (C.meaning clients.now) store.old.state.facts }
+    requires known { contact < store.old.state.facts.contacts }
+    requires few { store.old.state.facts.begun < MAX_SESSIONS }
+    requires latency { 1 ≤ latency }
+    requires versions { to.old.items ≡ spelling (record_kind.Versions (0 ∷ [])) }
+    ensures put { HasPutBox (C.meaning clients.now) contact latency now count store.old store.new
+        to.new.items result (D.tells disk.old) (D.tells disk.new) }
+    ensures gathering { store.new.closed ≡ false
+        → IsGathering (C.meaning clients.now) store.new (D.tells disk.new).files }
+    ensures is_store { IsStore store.new }
+    ensures fault { IsErrOf result StoreFault.DiskFault
+        → CountRose (D.tells disk.old).disk_faults (D.tells disk.new).disk_faults }
+{
+    let session = begin(alloc, store, disk, clients, contact, latency)?;
+    put_all(alloc, store, disk, clients, &session, now, count, to)
+}
+
+// Gathers what is due on a session, at most so many outputs, and adds their bytes.
 fn put_all<D: Disk, C: Clients>(
     alloc: Global,
     store: &mut Store,
@@ -81,8 +153,8 @@ fn put_all<D: Disk, C: Clients>(
     requires able { IsOpenFor (C.meaning clients.now) session.now store.old (D.tells disk.old) }
     ensures put { HasPutAll (C.meaning clients.now) session.now.number now count store.old
         store.new to.old.items to.new.items result (D.tells disk.old) (D.tells disk.new) }
-    ensures ready { store.new.closed ≡ false
-        → IsReady (C.meaning clients.now) store.new (D.tells disk.new).files }
+    ensures gathering { store.new.closed ≡ false
+        → IsGathering (C.meaning clients.now) store.new (D.tells disk.new).files }
     ensures is_store { IsStore store.new }
     ensures fault { IsErrOf result StoreFault.DiskFault
         → CountRose (D.tells disk.old).disk_faults (D.tells disk.new).disk_faults }
@@ -98,7 +170,7 @@ fn put_all<D: Disk, C: Clients>(
     Ok(made)
 }
 
-// Commits the next output that is due, and adds its bytes. Answers whether one was due.
+// Gathers the next output that is due, and adds its bytes. Answers whether one was due.
 fn put_next<D: Disk, C: Clients>(
     alloc: Global,
     store: &mut Store,
@@ -113,8 +185,8 @@ fn put_next<D: Disk, C: Clients>(
         to.old.items to.new.items result (D.tells disk.old) (D.tells disk.new) }
     ensures able { OnOk result (IsOpenFor (C.meaning clients.now) session.now store.new
         (D.tells disk.new)) }
-    ensures ready { store.new.closed ≡ false
-        → IsReady (C.meaning clients.now) store.new (D.tells disk.new).files }
+    ensures gathering { store.new.closed ≡ false
+        → IsGathering (C.meaning clients.now) store.new (D.tells disk.new).files }
     ensures is_store { IsStore store.new }
     ensures fault { IsErrOf result StoreFault.DiskFault
         → CountRose (D.tells disk.old).disk_faults (D.tells disk.new).disk_faults }
@@ -127,6 +199,6 @@ fn put_next<D: Disk, C: Clients>(
     let bytes = spell_out(alloc, store, &out)?;
     to.extend_from_slice(bytes.as_slice())?;
     let batch = Batch::single(alloc, Entry::Out(session.number, now, out))?;
-    commit(store, disk, clients, batch)?;
+    store.gather_known(disk, clients, batch, None)?;
     Ok(true)
 }

@@ -17,7 +17,7 @@ use Rattle.sync_rules.proofs.Settling.{after_batches-append}
 use Rattle.sync_store.specs.Store.{StoreValue}
 use Rattle.sync_words.specs.declared.outcome.Outcome.{Outcome}
 use Rattle.client_sharing.specs.declared.agreement.Target.{Target}
-use Rattle.sharing_commands.specs.Adding.{AddsFront}
+use Rattle.sharing_commands.specs.Adding.{GathersFront}
 use Rattle.sharing_commands.specs.Deeds.{all_batches, all_text, batches_for}
 use Rattle.sharing_commands.specs.Deeds.{text_for}
 use Rattle.sharing_commands.proofs.Fronts.{adds_short, adds_then, facts_added}
@@ -80,37 +80,37 @@ module _ (clients : Meaning) (contact : ℕ) where
 
   module _ (s0 s1 s2 : StoreValue) (o0 o1 o2 : Outside) (ts : List Target) (i : ℕ) (t : Target)
       (next : take (i + 1) ts ≡ take i ts ++ t ∷ []) (u : Unit {0})
-      (done : AddsFront clients s0 s1 o0 o1 (all_batches clients contact s0.state.facts (take i ts))
+      (done : GathersFront clients s0 s1 o0 o1 (all_batches clients contact s0.state.facts (take i ts))
       (Ok u)) where
     at : s1.state.facts ≡ after_batches s0.state.facts
         (all_batches clients contact s0.state.facts (take i ts))
     at = facts_added clients s0 s1 o0 o1 (all_batches clients contact s0.state.facts (take i ts)) u
         done
 
-    one_on : (r : Result (Unit {0}) Outcome) → AddsFront clients s1 s2 o1 o2
+    one_on : (r : Result (Unit {0}) Outcome) → GathersFront clients s1 s2 o1 o2
         (batches_for clients contact s1.state.facts t) r
-        → AddsFront clients s0 s2 o0 o2
+        → GathersFront clients s0 s2 o0 o2
         (all_batches clients contact s0.state.facts (take (i + 1) ts)) r
     one_on r more =
         let same =
         with_one s0.state.facts s1.state.facts (take i ts) t at
         ∙ ap (λ (xs : List Target). all_batches clients contact s0.state.facts xs) (sym next) in
-        subst (λ (all : List (List Entry)). AddsFront clients s0 s2 o0 o2 all r) same
+        subst (λ (all : List (List Entry)). GathersFront clients s0 s2 o0 o2 all r) same
         (adds_then clients s0 s1 s2 o0 o1 o2
         (all_batches clients contact s0.state.facts (take i ts))
         (batches_for clients contact s1.state.facts t) u r done more)
 
     -- one target more
-    pub set_more : AddsFront clients s1 s2 o1 o2 (batches_for clients contact s1.state.facts t)
+    pub set_more : GathersFront clients s1 s2 o1 o2 (batches_for clients contact s1.state.facts t)
         (Ok u)
-        → AddsFront clients s0 s2 o0 o2
+        → GathersFront clients s0 s2 o0 o2
         (all_batches clients contact s0.state.facts (take (i + 1) ts)) (Ok u)
     set_more more = one_on (Ok u) more
 
     -- none behind one that was not done
-    pub set_stopped : (came : Outcome) → AddsFront clients s1 s2 o1 o2
+    pub set_stopped : (came : Outcome) → GathersFront clients s1 s2 o1 o2
         (batches_for clients contact s1.state.facts t) (Err came)
-        → AddsFront clients s0 s2 o0 o2 (all_batches clients contact s0.state.facts ts) (Err came)
+        → GathersFront clients s0 s2 o0 o2 (all_batches clients contact s0.state.facts ts) (Err came)
     set_stopped came more =
         let f = s0.state.facts in
         let front = take (i + 1) ts in
@@ -121,7 +121,7 @@ module _ (clients : Meaning) (contact : ℕ) where
         sym (all_append f front (drop (i + 1) ts))
         ∙ ap (λ (xs : List Target). all_batches clients contact f xs)
         (take-append-drop (i + 1) ts) in
-        subst (λ (all : List (List Entry)). AddsFront clients s0 s2 o0 o2 all (Err came)) same
+        subst (λ (all : List (List Entry)). GathersFront clients s0 s2 o0 o2 all (Err came)) same
         (adds_short clients s0 s2 o0 o2 (all_batches clients contact f front) rest came
         (one_on (Err came) more))
 
@@ -152,7 +152,7 @@ added_known (y ∷ groups) x =
 
 pub group_known : (clients : Meaning) (s s' : StoreValue) (o o' : Outside) (def : GroupValue)
     (batch : List Entry) (r : Result (Unit {0}) Outcome)
-    → batch ≡ entry.Group def ∷ [] → AddsFront clients s s' o o' (batch ∷ []) r
+    → batch ≡ entry.Group def ∷ [] → GathersFront clients s s' o o' (batch ∷ []) r
     → OnOk r (is_some (group_at s'.state.facts.groups (group_id_of def)) ≡ true)
 group_known clients s s' o o' def batch (Ok u) is added =
     let there : s'.state.facts ≡ after s.state.facts (entry.Group def) =

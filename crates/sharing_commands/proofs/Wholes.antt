@@ -37,8 +37,8 @@ pub front_of : (s : StoreValue) (all front : List (List Entry)) (r : Result (Uni
 front_of s all front (Ok u) so = record { rest = []; whole = sym so.1 ∙ sym (append-nil front) }
 front_of s all front (Err outcome.Full) so =
     record { rest = so.1.next ∷ so.1.rest; whole = so.1.parts }
-front_of s all front (Err outcome.Memory) so = so
-front_of s all front (Err outcome.DiskFault) so = so
+front_of s all front (Err outcome.Memory) so = so.1
+front_of s all front (Err outcome.DiskFault) so = so.1
 front_of s all front (Err _) so = absurd so
 
 does_so : (clients : Meaning) (contact : ℕ) (group : Id) (f : Facts) (s : StoreValue)
@@ -70,10 +70,7 @@ pub agreement_done : (clients : Meaning) (contact : ℕ) (group : Id) (s s' : St
     → DoesErrand clients (agreement clients contact group) s s' o o' r
 agreement_done clients contact group s s' o o' r added by settled = record {
   more = added.front;
-  comes = record {
-    runs = added.runs;
-    roomy = λ two files j fits. added.roomy j fits.end_is fits.facts_are;
-  };
+  comes = added.adds.comes;
   some = front_of s' (agreed_batches clients contact group s.state.facts) added.front r
       added.answer;
   answer = does_so clients contact group s.state.facts s' added.front r added.answer settled;

@@ -1,17 +1,15 @@
--- Batches that are added to a settled store, one after the other.
-use Rattle.std.specs.Prelude.{◌≡◌, ◌<◌, ℕ, false, List, ◌∷◌, ◌++◌, Result, Ok, Err}
+-- Batches that a settled store gathers, one after the other, and adds to its journal together.
+use Rattle.std.specs.Prelude.{◌≡◌, ◌<◌, ℕ, true, false, List, ◌∷◌, ◌++◌, Result, Ok, Err}
 use Rattle.outside.specs.Outside.{Outside}
 use Rattle.outside.specs.Runs.{IsFront}
 use Rattle.sync_rules.specs.declared.entries.Entry.{Entry}
 use Rattle.sync_rules.specs.Clients.{Meaning}
-use Rattle.sync_rules.specs.Facts.{facts}
 use Rattle.sync_rules.specs.Steps.{IsSettled}
-use Rattle.entry_codec.specs.Payloads.{journal_end}
 use Rattle.sync_store.specs.Commits.{needed}
+use Rattle.sync_store.specs.Groups.{IsGathering}
 use Rattle.sync_store.specs.Ready.{IsReady}
-use Rattle.sync_store.specs.Rooms.{AreRoomy}
-use Rattle.sync_store.specs.Runs.{RunsBy}
-use Rattle.sync_store.specs.Store.{IsStore, StoreValue, written_in}
+use Rattle.sync_store.specs.Store.{IsStore, StoreValue}
+use Rattle.mailbox_core.specs.Together.{ComesBehind, ComesInGroups}
 use Rattle.sync_words.specs.declared.outcome.Outcome.{Outcome}
 use Rattle.sync_words.specs.declared.outcome.Outcome.TheVariants as outcome
 
@@ -22,25 +20,29 @@ pub record LacksRoomForTarget (s : StoreValue) (all front : List (List Entry)) :
   pub parts : all ≡ front ++ next ∷ rest
   pub over : s.limit < needed s next
 
--- which batches were added, by the answer
+-- which batches were added, by the answer; the store is closed after DiskFault, and only then
 abbrev pub AddsSo : StoreValue → (all front : List (List Entry)) → Result (Unit {0}) Outcome
     → Type 0
 AddsSo s all front (Ok _) = (s.closed ≡ false) × (front ≡ all)
 AddsSo s all front (Err outcome.Full) = (s.closed ≡ false) × LacksRoomForTarget s all front
-AddsSo s all front (Err outcome.Memory) = IsFront front all
-AddsSo s all front (Err outcome.DiskFault) = IsFront front all
+AddsSo s all front (Err outcome.Memory) = (s.closed ≡ false) × IsFront front all
+AddsSo s all front (Err outcome.DiskFault) = (s.closed ≡ true) × IsFront front all
 AddsSo s all front (Err _) = ⊥
 
--- a store came by a front of these batches to this one, as far as the answer says; there was room
--- for each
+-- a store came by a front of these batches to this one, behind those that wait of it, as far as the
+-- answer says
+pub record GathersFront (clients : Meaning) (s s' : StoreValue) (o o' : Outside)
+    (all : List (List Entry)) (result : Result (Unit {0}) Outcome) : Type 0 where
+  pub front : List (List Entry)
+  pub comes : ComesBehind clients s s' o o' front
+  pub answer : AddsSo s' all front result
+
+-- a store came by a front of these batches to this one, as far as the answer says: there was room for
+-- each, and they were added in as few groups as their frames take
 pub record AddsFront (clients : Meaning) (s s' : StoreValue) (o o' : Outside)
     (all : List (List Entry)) (result : Result (Unit {0}) Outcome) : Type 0 where
   pub front : List (List Entry)
-  pub runs : RunsBy clients s s' o o' front
-  pub ends : s'.closed ≡ false → (j : List (List Entry)) → s.end ≡ journal_end (written_in s) j
-      → s'.end ≡ journal_end (written_in s) (j ++ front)
-  pub roomy : (j : List (List Entry)) → s.end ≡ journal_end (written_in s) j
-      → facts j ≡ s.state.facts → AreRoomy (written_in s) s.limit j front
+  pub adds : ComesInGroups clients s s' o o' front
   pub answer : AddsSo s' all front result
 
 -- a settled store that knows a contact
@@ -56,3 +58,15 @@ pub record KnowsContact (clients : Meaning) (s : StoreValue) (o : Outside)
 abbrev pub StaysKnown : Meaning → StoreValue → Outside → ℕ → Result (Unit {0}) Outcome → Type 0
 StaysKnown clients s o contact (Err outcome.DiskFault) = Unit {0}
 StaysKnown clients s o contact _ = KnowsContact clients s o contact
+
+-- a settled store that gathers and knows a contact
+pub record GathersFor (clients : Meaning) (s : StoreValue) (o : Outside)
+    (contact : ℕ) : Type 0 where
+  pub gathering : IsGathering clients s o.files
+  pub settled : IsSettled clients s.state.facts
+  pub known : contact < s.state.facts.contacts
+
+-- what stands of it likewise
+abbrev pub StaysGathering : Meaning → StoreValue → Outside → ℕ → Result (Unit {0}) Outcome → Type 0
+StaysGathering clients s o contact (Err outcome.DiskFault) = Unit {0}
+StaysGathering clients s o contact _ = GathersFor clients s o contact

@@ -7,7 +7,8 @@ ghost use Rattle.store_commands.specs.Load.{MayExtend};
 ghost use Rattle.store_commands.specs.Running.{RunsErrand};
 ghost use Rattle.store_commands.specs.Serving.{IsServed, ServesOn, WasLoaded};
 ghost use Rattle.store_commands.specs.Show.{PrintsText};
-ghost use Rattle.sharing_commands.specs.Adding.{AddsFront, KnowsContact, StaysKnown};
+ghost use Rattle.sharing_commands.specs.Adding.{AddsFront, GathersFor, GathersFront, KnowsContact};
+ghost use Rattle.sharing_commands.specs.Adding.{StaysGathering, StaysKnown};
 ghost use Rattle.sharing_commands.specs.Agreeing.{HasAgreed, agreement};
 ghost use Rattle.sharing_commands.specs.Agreement.{agree_test, agreed_batches, agreed_text};
 
@@ -122,6 +123,37 @@ fn add_agreed<D: Disk, C: Clients>(
         store.old.state.facts) result }
     ensures by { ExtendsBy (D.tells disk.old) (D.tells disk.new) result }
     ensures stands { StaysKnown (C.meaning clients.now) store.new (D.tells disk.new) contact
+        result }
+    ensures text { OnOk result (string_bytes to.new ≡ string_bytes to.old ++ agreed_text
+        (C.meaning clients.now) contact group.now store.old.state.facts) }
+{
+    let gathered = gather_agreed(alloc, store, contact, group, disk, clients, to);
+    if store.is_closed() {
+        return gathered;
+    }
+    match store.flush(disk, clients) {
+        Ok(()) => gathered,
+        Err(_) => Err(Outcome::DiskFault),
+    }
+}
+
+// Gathers what the targets ask of a settled journal, and adds their lines. What was gathered waits,
+// whatever the answer is.
+fn gather_agreed<D: Disk, C: Clients>(
+    alloc: Global,
+    store: &mut Store,
+    contact: u8,
+    group: &GroupId,
+    disk: &mut D,
+    clients: &C,
+    to: &mut String,
+) -> Result<(), Outcome>
+    requires stands { GathersFor (C.meaning clients.now) store.old (D.tells disk.old) contact }
+    ensures adds { GathersFront (C.meaning clients.now) store.old store.new (D.tells disk.old)
+        (D.tells disk.new) (agreed_batches (C.meaning clients.now) contact group.now
+        store.old.state.facts) result }
+    ensures by { ExtendsBy (D.tells disk.old) (D.tells disk.new) result }
+    ensures stands { StaysGathering (C.meaning clients.now) store.new (D.tells disk.new) contact
         result }
     ensures text { OnOk result (string_bytes to.new ≡ string_bytes to.old ++ agreed_text
         (C.meaning clients.now) contact group.now store.old.state.facts) }

@@ -4,7 +4,7 @@ ghost use Rattle.std.specs.String.{string_bytes};
 ghost use Rattle.sync_rules.specs.declared.entries.Entry.TheVariants as entry;
 ghost use Rattle.sync_store.specs.Refusals.{group_answer};
 ghost use Rattle.store_commands.specs.Commit.{ExtendsBy};
-ghost use Rattle.sharing_commands.specs.Adding.{AddsFront, KnowsContact, StaysKnown};
+ghost use Rattle.sharing_commands.specs.Adding.{GathersFront, GathersFor, StaysGathering};
 ghost use Rattle.sharing_commands.specs.Deeds.{all_batches, all_text, batches_for, deed_batches};
 ghost use Rattle.sharing_commands.specs.Deeds.{deed_of, target_id, text_for};
 
@@ -29,12 +29,12 @@ pub(crate) fn set_all<D: Disk, C: Clients>(
     clients: &C,
     to: &mut String,
 ) -> Result<(), Outcome>
-    requires stands { KnowsContact (C.meaning clients.now) store.old (D.tells disk.old) contact }
-    ensures adds { AddsFront (C.meaning clients.now) store.old store.new (D.tells disk.old)
+    requires stands { GathersFor (C.meaning clients.now) store.old (D.tells disk.old) contact }
+    ensures adds { GathersFront (C.meaning clients.now) store.old store.new (D.tells disk.old)
         (D.tells disk.new) (all_batches (C.meaning clients.now) contact store.old.state.facts
         targets.now) result }
     ensures by { ExtendsBy (D.tells disk.old) (D.tells disk.new) result }
-    ensures stands { StaysKnown (C.meaning clients.now) store.new (D.tells disk.new) contact
+    ensures stands { StaysGathering (C.meaning clients.now) store.new (D.tells disk.new) contact
         result }
     ensures text { OnOk result (string_bytes to.new ≡ string_bytes to.old ++ all_text
         (C.meaning clients.now) contact store.old.state.facts targets.now) }
@@ -56,12 +56,12 @@ fn set_target<D: Disk, C: Clients>(
     clients: &C,
     to: &mut String,
 ) -> Result<(), Outcome>
-    requires stands { KnowsContact (C.meaning clients.now) store.old (D.tells disk.old) contact }
-    ensures adds { AddsFront (C.meaning clients.now) store.old store.new (D.tells disk.old)
+    requires stands { GathersFor (C.meaning clients.now) store.old (D.tells disk.old) contact }
+    ensures adds { GathersFront (C.meaning clients.now) store.old store.new (D.tells disk.old)
         (D.tells disk.new) (batches_for (C.meaning clients.now) contact store.old.state.facts
         target.now) result }
     ensures by { ExtendsBy (D.tells disk.old) (D.tells disk.new) result }
-    ensures stands { StaysKnown (C.meaning clients.now) store.new (D.tells disk.new) contact
+    ensures stands { StaysGathering (C.meaning clients.now) store.new (D.tells disk.new) contact
         result }
     ensures text { OnOk result (string_bytes to.new ≡ string_bytes to.old ++ text_for
         (C.meaning clients.now) contact store.old.state.facts target.now) }
@@ -84,14 +84,14 @@ fn do_deed<D: Disk, C: Clients>(
     disk: &mut D,
     clients: &C,
 ) -> Result<(), Outcome>
-    requires stands { KnowsContact (C.meaning clients.now) store.old (D.tells disk.old) contact }
+    requires stands { GathersFor (C.meaning clients.now) store.old (D.tells disk.old) contact }
     requires group { group.now ≡ target_id target.now }
     requires deed { deed ≡ deed_of (C.meaning clients.now) contact store.old.state.facts
         target.now }
-    ensures adds { AddsFront (C.meaning clients.now) store.old store.new (D.tells disk.old)
+    ensures adds { GathersFront (C.meaning clients.now) store.old store.new (D.tells disk.old)
         (D.tells disk.new) (deed_batches contact target.now deed) result }
     ensures by { ExtendsBy (D.tells disk.old) (D.tells disk.new) result }
-    ensures stands { StaysKnown (C.meaning clients.now) store.new (D.tells disk.new) contact
+    ensures stands { StaysGathering (C.meaning clients.now) store.new (D.tells disk.new) contact
         result }
 {
     images_stand();
@@ -114,15 +114,15 @@ fn add_target<D: Disk, C: Clients>(
     disk: &mut D,
     clients: &C,
 ) -> Result<(), Outcome>
-    requires stands { KnowsContact (C.meaning clients.now) store.old (D.tells disk.old) contact }
+    requires stands { GathersFor (C.meaning clients.now) store.old (D.tells disk.old) contact }
     requires group { group.now ≡ target_id target.now }
     requires tested { is_ok (group_answer (C.meaning clients.now) store.old.state.facts
         target.now.def) ≡ true }
-    ensures adds { AddsFront (C.meaning clients.now) store.old store.new (D.tells disk.old)
+    ensures adds { GathersFront (C.meaning clients.now) store.old store.new (D.tells disk.old)
         (D.tells disk.new) ((entry.Group target.now.def ∷ []) ∷ (entry.Level contact group.now
         target.now.level ∷ []) ∷ []) result }
     ensures by { ExtendsBy (D.tells disk.old) (D.tells disk.new) result }
-    ensures stands { StaysKnown (C.meaning clients.now) store.new (D.tells disk.new) contact
+    ensures stands { StaysGathering (C.meaning clients.now) store.new (D.tells disk.new) contact
         result }
 {
     add_group(alloc, store, contact, &target.def, disk, clients)?;

@@ -1,7 +1,7 @@
 use Rattle.std.proofs.Common.{◌≤◌, ◌∙◌, ap, arith}
 use Rattle.sync_rules.specs.Facts.{takes_of}
 use Rattle.mailbox_core.specs.Steps.{HasReadRest, left_of, next_on}
-use Rattle.mailbox_core.proofs.Committed.{on_error}
+use Rattle.mailbox_core.proofs.Joined.{on_error}
 use Rattle.mailbox_core.proofs.ReadSteps.{way_begins, way_ends, way_goes_on, way_stops, way_within}
 use Rattle.mailbox_core.proofs.reading.take_all.Goals as goal
 

@@ -2,7 +2,7 @@ use Rattle.std.proofs.Common.{[], ap, sym, ◌∙◌}
 use Rattle.sync_store.specs.declared.fault.StoreFault.TheVariants as fault
 use Rattle.mailbox_core.specs.Files.{ends_as}
 use Rattle.mailbox_core.specs.Steps.{HasReadItem, left_of}
-use Rattle.mailbox_core.proofs.Committed.{on_error}
+use Rattle.mailbox_core.proofs.Joined.{on_error}
 use Rattle.mailbox_core.proofs.Lefts.{left_ended, left_one, left_skipped}
 use Rattle.mailbox_core.proofs.ReadSteps.{read_end, read_last, read_one, read_past, read_starved}
 use Rattle.mailbox_core.proofs.reading.take_next.Goals as goal

@@ -1,12 +1,13 @@
-use Rattle.std.proofs.Common.{ℕ, Ok, is_some, sym, ap, ◌∙◌}
+use Rattle.std.proofs.Common.{ℕ, Ok, Err, is_some, sym, ap, ◌∙◌}
 use Rattle.std.proofs.lemmas.Bool.{false≢true}
 use Rattle.sync_rules.specs.Facts.{session_at}
 use Rattle.sync_rules.specs.Hearing.{batch_session}
 use Rattle.sync_store.specs.declared.fault.StoreFault.TheVariants as fault
 use Rattle.mailbox_core.specs.Steps.{HasBegunSession}
 use Rattle.mailbox_core.specs.Taking.{first_batch}
-use Rattle.mailbox_core.proofs.BeginSteps.{begun_found, begun_starved, of_its_batch}
-use Rattle.mailbox_core.proofs.Committed.{on_error}
+use Rattle.mailbox_core.proofs.BeginSteps.{begun_able, begun_found, begun_starved, has_begun}
+use Rattle.mailbox_core.proofs.BeginSteps.{not_begun, of_its_batch}
+use Rattle.mailbox_core.proofs.Joined.{on_error}
 use Rattle.mailbox_core.proofs.steps.begin.Goals as goal
 
 pub returns-in_err-batch-clause-begun : goal.returns-in_err-batch-clause-begun
@@ -17,7 +18,64 @@ returns-in_err-batch-clause-begun g c =
     on_error c.from_residual.result fault.Memory
     (λ r. HasBegunSession clients c.args.contact c.args.latency s s r o o) c.from_residual.ensures.1
     (begun_starved c.images_stand.ensures clients c.args.contact c.args.latency s o
-    c.requires.is_store c.requires.ready.still_open)
+    c.requires.gathering.still_open)
+
+pub returns-in_err-gather_known-clause-begun : goal.returns-in_err-gather_known-clause-begun
+returns-in_err-gather_known-clause-begun g c =
+    let clients = g.C.Clients.meaning c.args.clients.now in
+    let s = c.args.store.now in
+    let s' = c.gather_known.new.self in
+    let o = g.D.Disk.tells c.args.disk.now in
+    let o' = g.D.Disk.tells c.gather_known.new.disk in
+    let e = c.in_err-gather_known.field-0.0 in
+    let first = first_batch (batch_session s.state.facts.begun c.args.contact c.args.latency) in
+    let batch = c.in_ok-batch.ensures
+    ∙ ap (λ (k : ℕ). first_batch (batch_session k c.args.contact c.args.latency))
+    c.sessions-number.ensures in
+    on_error c.from_residual-in_err-gather_known.result e
+    (λ r. HasBegunSession clients c.args.contact c.args.latency s s' r o o')
+    c.from_residual-in_err-gather_known.ensures.1
+    (not_begun clients c.args.contact c.args.latency s s' o o' e c.gather_known.ensures.run
+    (of_its_batch clients s s' c.in_ok-batch.batch first (Err e) o o' batch
+    c.in_err-gather_known.ensures.joins))
+
+pub returns-clause-begun : goal.returns-clause-begun
+returns-clause-begun g c =
+    let clients = g.C.Clients.meaning c.args.clients.now in
+    let s = c.args.store.now in
+    let s' = c.gather_known.new.self in
+    let o = g.D.Disk.tells c.args.disk.now in
+    let o' = g.D.Disk.tells c.gather_known.new.disk in
+    let first = first_batch (batch_session s.state.facts.begun c.args.contact c.args.latency) in
+    let batch = c.in_ok-batch.ensures
+    ∙ ap (λ (k : ℕ). first_batch (batch_session k c.args.contact c.args.latency))
+    c.sessions-number.ensures in
+    let found = sym (sym c.in-Some.is
+    ∙ (c.session.ensures.value
+    ∙ (λ i. session_at (c.state.ensures i).facts.sessions (c.sessions-number.ensures i)))) in
+    has_begun clients c.args.contact c.args.latency s s' o o' tt c.in-Some.begun
+    c.gather_known.ensures.run
+    (of_its_batch clients s s' c.in_ok-batch.batch first (Ok tt) o o' batch
+    c.in_ok-gather_known.ensures.joins) found
+
+pub returns-clause-opened : goal.returns-clause-opened
+returns-clause-opened g c =
+    let clients = g.C.Clients.meaning c.args.clients.now in
+    let s = c.args.store.now in
+    let s' = c.gather_known.new.self in
+    let o = g.D.Disk.tells c.args.disk.now in
+    let o' = g.D.Disk.tells c.gather_known.new.disk in
+    let first = first_batch (batch_session s.state.facts.begun c.args.contact c.args.latency) in
+    let batch = c.in_ok-batch.ensures
+    ∙ ap (λ (k : ℕ). first_batch (batch_session k c.args.contact c.args.latency))
+    c.sessions-number.ensures in
+    let found = sym (sym c.in-Some.is
+    ∙ (c.session.ensures.value
+    ∙ (λ i. session_at (c.state.ensures i).facts.sessions (c.sessions-number.ensures i)))) in
+    begun_able clients c.args.contact c.args.latency s s' o o' tt c.in-Some.begun
+    c.requires.settled
+    (of_its_batch clients s s' c.in_ok-batch.batch first (Ok tt) o o' batch
+    c.in_ok-gather_known.ensures.joins) found c.gather_known.ensures.gathering
 
 pub unreachable-requires : goal.unreachable-requires
 unreachable-requires g c =
@@ -27,12 +85,12 @@ unreachable-requires g c =
     let batch = c.in_ok-batch.ensures
     ∙ ap (λ (k : ℕ). first_batch (batch_session k c.args.contact c.args.latency))
     c.sessions-number.ensures in
-    let found = begun_found clients c.args.contact c.args.latency s c.commit.new.store
-    (g.D.Disk.tells c.args.disk.now) (g.D.Disk.tells c.commit.new.disk) tt
-    (of_its_batch clients s c.commit.new.store c.in_ok-batch.batch
+    let found = begun_found clients c.args.contact c.args.latency s c.gather_known.new.self
+    (g.D.Disk.tells c.args.disk.now) (g.D.Disk.tells c.gather_known.new.disk) tt
+    (of_its_batch clients s c.gather_known.new.self c.in_ok-batch.batch
     (first_batch (batch_session n c.args.contact c.args.latency)) (Ok tt)
-    (g.D.Disk.tells c.args.disk.now) (g.D.Disk.tells c.commit.new.disk) batch
-    c.in_ok-commit.ensures.committed) in
+    (g.D.Disk.tells c.args.disk.now) (g.D.Disk.tells c.gather_known.new.disk) batch
+    c.in_ok-gather_known.ensures.joins) in
     let none = sym c.in-None.is
     ∙ (c.session.ensures.value
     ∙ (λ i. session_at (c.state.ensures i).facts.sessions (c.sessions-number.ensures i))) in

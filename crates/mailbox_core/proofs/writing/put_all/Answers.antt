@@ -1,6 +1,6 @@
 use Rattle.std.proofs.Common.{◌≤◌, arith}
 use Rattle.mailbox_core.specs.Steps.{HasPutAll}
-use Rattle.mailbox_core.proofs.Committed.{on_error}
+use Rattle.mailbox_core.proofs.Joined.{on_error}
 use Rattle.mailbox_core.proofs.SendSteps.{way_begins, way_ends, way_full, way_goes_on, way_stops}
 use Rattle.mailbox_core.proofs.writing.put_all.Goals as goal
 

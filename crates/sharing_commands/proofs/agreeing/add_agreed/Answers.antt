@@ -1,29 +1,90 @@
-use Rattle.sync_words.specs.declared.outcome.Outcome.TheVariants as outcome
-use Rattle.sharing_commands.proofs.Fronts.{adds_on, none_added}
-use Rattle.sharing_commands.proofs.Standing.{known_on}
+use Rattle.std.proofs.Common.{◌≡◌, true, false, Ok, Err, sym, ap, ◌∙◌}
+use Rattle.sync_store.specs.Store.{StoreValue}
+use Rattle.sync_store.proofs.Behind.{flush_behind}
+use Rattle.mailbox_core.proofs.Joined.{closed_so, rose_behind}
+use Rattle.sharing_commands.proofs.Standing.{by_then, front_broken, front_closed, front_flushed, gathers_for}
+use Rattle.sharing_commands.proofs.Standing.{gathers_open, known_closed, known_flushed}
 use Rattle.sharing_commands.proofs.agreeing.add_agreed.Goals as goal
 
-pub returns-in_err-said-clause-adds : goal.returns-in_err-said-clause-adds
-returns-in_err-said-clause-adds g c =
+pub gather_agreed-requires : goal.gather_agreed-requires
+gather_agreed-requires g c = record {
+  stands = gathers_for (g.C.Clients.meaning c.args.clients.now) c.args.store.now
+      (g.D.Disk.tells c.args.disk.now) c.args.contact c.requires.stands;
+}
+
+pub flush-requires : goal.flush-requires
+flush-requires g c =
+    let e = c.gather_agreed-gathered.ensures in
+    record {
+      gathering = gathers_open (g.C.Clients.meaning c.args.clients.now)
+          c.gather_agreed-gathered.new.store (g.D.Disk.tells c.gather_agreed-gathered.new.disk)
+          c.args.contact _ e.adds.front c.gather_agreed-gathered.result e.adds.answer
+          (sym c.is_closed.ensures.closed ∙ c.if-is_closed.false) e.stands;
+    }
+
+pub returns-then-is_closed-clause-adds : goal.returns-then-is_closed-clause-adds
+returns-then-is_closed-clause-adds g c =
     let clients = g.C.Clients.meaning c.args.clients.now in
-    adds_on c.from_residual.result outcome.Memory c.from_residual.ensures.1 clients _ _ _ _ _
-    (none_added c.images_stand.ensures clients c.args.store.now _ _ c.requires.stands.is_store)
+    front_closed clients c.args.store.now c.gather_agreed-gathered.new.store _ _ c.args.contact _
+    c.gather_agreed-gathered.result c.requires.stands c.gather_agreed-gathered.ensures.adds
+    (sym c.is_closed.ensures.closed ∙ c.if-is_closed.true)
 
-pub returns-in_err-targets-clause-adds : goal.returns-in_err-targets-clause-adds
-returns-in_err-targets-clause-adds g c =
+pub returns-then-is_closed-clause-stands : goal.returns-then-is_closed-clause-stands
+returns-then-is_closed-clause-stands g c =
+    known_closed (g.C.Clients.meaning c.args.clients.now) c.gather_agreed-gathered.new.store
+    (g.D.Disk.tells c.gather_agreed-gathered.new.disk) c.args.contact
+    c.gather_agreed-gathered.result (sym c.is_closed.ensures.closed ∙ c.if-is_closed.true)
+    c.gather_agreed-gathered.ensures.stands (g.D.Disk.tells c.args.disk.now)
+    c.gather_agreed-gathered.ensures.by
+
+pub returns-in-Ok-clause-adds : goal.returns-in-Ok-clause-adds
+returns-in-Ok-clause-adds g c =
     let clients = g.C.Clients.meaning c.args.clients.now in
-    adds_on c.from_residual-in_err-targets.result outcome.Memory
-    c.from_residual-in_err-targets.ensures.1 clients _ _ _ _ _
-    (none_added c.images_stand.ensures clients c.args.store.now _ _ c.requires.stands.is_store)
+    let s1 = c.gather_agreed-gathered.new.store in
+    let s2 = c.flush.new.self in
+    let o1 = g.D.Disk.tells c.gather_agreed-gathered.new.disk in
+    let o2 = g.D.Disk.tells c.flush.new.disk in
+    let f = c.in-Ok.ensures in
+    front_flushed clients c.args.store.now s1 _ o1 c.args.contact _
+    c.gather_agreed-gathered.result c.requires.stands c.gather_agreed-gathered.ensures.adds s2 o2
+    (sym c.is_closed.ensures.closed ∙ c.if-is_closed.false)
+    (flush_behind clients s1 s2 (Ok tt) o1 o2 f.ok tt f.run f.calls f.appends f.adds) f.ok
 
-pub returns-in_err-said-clause-stands : goal.returns-in_err-said-clause-stands
-returns-in_err-said-clause-stands g c =
-    known_on c.from_residual.result outcome.Memory c.from_residual.ensures.1
-    (g.C.Clients.meaning c.args.clients.now) c.args.store.now (g.D.Disk.tells c.args.disk.now)
-    c.args.contact c.requires.stands
+pub returns-in-Err-clause-adds : goal.returns-in-Err-clause-adds
+returns-in-Err-clause-adds g c =
+    let clients = g.C.Clients.meaning c.args.clients.now in
+    let s1 = c.gather_agreed-gathered.new.store in
+    let s2 = c.flush.new.self in
+    let o1 = g.D.Disk.tells c.gather_agreed-gathered.new.disk in
+    let o2 = g.D.Disk.tells c.flush.new.disk in
+    let f = c.in-Err.ensures in
+    front_broken clients c.args.store.now s1 _ o1 c.args.contact _
+    c.gather_agreed-gathered.result c.requires.stands c.gather_agreed-gathered.ensures.adds s2 o2
+    (sym c.is_closed.ensures.closed ∙ c.if-is_closed.false)
+    (flush_behind clients s1 s2 (Err _) o1 o2 tt f.err f.run f.calls f.appends f.adds)
+    (closed_so s1 s2 f.err.1)
 
-pub returns-in_err-targets-clause-stands : goal.returns-in_err-targets-clause-stands
-returns-in_err-targets-clause-stands g c =
-    known_on c.from_residual-in_err-targets.result outcome.Memory c.from_residual-in_err-targets.ensures.1
-    (g.C.Clients.meaning c.args.clients.now) c.args.store.now (g.D.Disk.tells c.args.disk.now)
-    c.args.contact c.requires.stands
+pub returns-in-Ok-clause-stands : goal.returns-in-Ok-clause-stands
+returns-in-Ok-clause-stands g c =
+    let e = c.gather_agreed-gathered.ensures in
+    let f = c.in-Ok.ensures in
+    known_flushed (g.C.Clients.meaning c.args.clients.now) c.gather_agreed-gathered.new.store
+    c.flush.new.self (g.D.Disk.tells c.args.disk.now)
+    (g.D.Disk.tells c.gather_agreed-gathered.new.disk) (g.D.Disk.tells c.flush.new.disk)
+    c.args.contact c.gather_agreed-gathered.result e.by e.stands f.ok
+    (f.ready
+    (ap (λ (v : StoreValue). v.closed) f.ok ∙ sym c.is_closed.ensures.closed
+    ∙ c.if-is_closed.false)) f.numbers
+
+pub returns-in-Ok-clause-by : goal.returns-in-Ok-clause-by
+returns-in-Ok-clause-by g c =
+    by_then (g.D.Disk.tells c.args.disk.now) (g.D.Disk.tells c.gather_agreed-gathered.new.disk)
+    (g.D.Disk.tells c.flush.new.disk) c.gather_agreed-gathered.result
+    c.gather_agreed-gathered.ensures.by c.in-Ok.ensures.run.later
+
+pub returns-in-Err-clause-by : goal.returns-in-Err-clause-by
+returns-in-Err-clause-by g c =
+    rose_behind (g.D.Disk.tells c.args.disk.now).disk_faults
+    (g.D.Disk.tells c.gather_agreed-gathered.new.disk).disk_faults
+    (g.D.Disk.tells c.flush.new.disk).disk_faults
+    c.gather_agreed-gathered.ensures.adds.comes.run.later c.in-Err.ensures.fault.failed

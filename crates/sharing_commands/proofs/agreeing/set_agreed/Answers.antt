@@ -94,8 +94,8 @@ returns-in_err-add_agreed-clause-serves g c served =
     serves_on c.from_residual-in_err-add_agreed.result came
     c.from_residual-in_err-add_agreed.ensures.1 clients s2 o2
     (serves_known clients s2 (g.D.Disk.tells c.migrate_and_settle.new.disk) o2 c.args.contact
-    (Err came) (e.adds.runs.limit ∙ settled.comes.limit ∙ c.requires.ready.limited)
-    (ap format_meant e.adds.runs.format ∙ settled.answer.2) e.stands e.by)
+    (Err came) (e.adds.adds.comes.runs.limit ∙ settled.comes.limit ∙ c.requires.ready.limited)
+    (ap format_meant e.adds.adds.comes.runs.format ∙ settled.answer.2) e.stands e.by)
 
 pub returns-clause-serves : goal.returns-clause-serves
 returns-clause-serves g c served =
@@ -107,5 +107,5 @@ returns-clause-serves g c served =
     serves_printed clients s2 o2 c.as_str.result.now (g.W.Sink.tells c.args.out.now)
     (g.W.Sink.tells c.print_text.new.out) (came_to c.print_text.result)
     (serves_known clients s2 (g.D.Disk.tells c.migrate_and_settle.new.disk) o2 c.args.contact
-    (Ok tt) (e.adds.runs.limit ∙ settled.comes.limit ∙ c.requires.ready.limited)
-    (ap format_meant e.adds.runs.format ∙ settled.answer.2) e.stands e.by) c.print_text.ensures
+    (Ok tt) (e.adds.adds.comes.runs.limit ∙ settled.comes.limit ∙ c.requires.ready.limited)
+    (ap format_meant e.adds.adds.comes.runs.format ∙ settled.answer.2) e.stands e.by) c.print_text.ensures

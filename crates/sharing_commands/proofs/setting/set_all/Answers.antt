@@ -2,7 +2,7 @@ use Rattle.std.proofs.Common.{◌≡◌, ◌+◌, List, [], ◌∷◌, ◌++◌,
 use Rattle.std.specs.String.{string_bytes}
 use Rattle.std.proofs.lemmas.List.{take_all, take_more}
 use Rattle.client_sharing.specs.declared.agreement.Target.{Target}
-use Rattle.sharing_commands.specs.Adding.{AddsFront}
+use Rattle.sharing_commands.specs.Adding.{GathersFront}
 use Rattle.sharing_commands.specs.Deeds.{all_batches}
 use Rattle.sharing_commands.proofs.Fronts.{adds_on, nothing_added}
 use Rattle.sharing_commands.proofs.Targets.{set_more, set_stopped, text_more}
@@ -14,8 +14,7 @@ targets-init g c =
     let clients = g.C.Clients.meaning c.args.clients.now in
     record {
       adds = nothing_added c.images_stand.ensures clients c.args.store.now
-          (g.D.Disk.tells c.args.disk.now) tt c.requires.stands.is_store
-          c.requires.stands.ready.still_open;
+          (g.D.Disk.tells c.args.disk.now) tt c.requires.stands.gathering.still_open;
       stands = c.requires.stands;
       text = sym (append-nil (string_bytes c.args.to.now));
     }
@@ -65,7 +64,7 @@ pub returns-clause-adds : goal.returns-clause-adds
 returns-clause-adds g c =
     let clients = g.C.Clients.meaning c.args.clients.now in
     let ts = c.args.targets.now in
-    subst (λ (xs : List Target). AddsFront clients c.args.store.now c.targets.store
+    subst (λ (xs : List Target). GathersFront clients c.args.store.now c.targets.store
     (g.D.Disk.tells c.args.disk.now) (g.D.Disk.tells c.targets.disk)
     (all_batches clients c.args.contact c.args.store.now.state.facts xs) (Ok tt))
     (take_all c.targets.i ts (omega arith)) c.targets.invariant.adds

@@ -1,6 +1,6 @@
 use Rattle.std.proofs.Common.{◌≡◌, ◌++◌, Ok, take}
 use Rattle.std.specs.String.{string_bytes}
-use Rattle.sharing_commands.specs.Adding.{AddsFront, KnowsContact}
+use Rattle.sharing_commands.specs.Adding.{GathersFront, GathersFor}
 use Rattle.sharing_commands.specs.Deeds.{all_batches, all_text}
 use Rattle.sharing_commands.proofs.setting.set_all.Given as goal
 
@@ -9,9 +9,9 @@ invariant-targets g l =
     let clients = g.C.Clients.meaning l.clients in
     let f = l.initial.store.state.facts in
     record {
-      adds : AddsFront clients l.initial.store l.store (g.D.Disk.tells l.initial.disk)
+      adds : GathersFront clients l.initial.store l.store (g.D.Disk.tells l.initial.disk)
           (g.D.Disk.tells l.disk) (all_batches clients l.contact f (take l.i l.targets)) (Ok tt);
-      stands : KnowsContact clients l.store (g.D.Disk.tells l.disk) l.contact;
+      stands : GathersFor clients l.store (g.D.Disk.tells l.disk) l.contact;
       text : string_bytes l.to
           ≡ string_bytes l.initial.to ++ all_text clients l.contact f (take l.i l.targets);
     }

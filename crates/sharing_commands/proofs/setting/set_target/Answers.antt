@@ -7,7 +7,7 @@ pub returns-in_err-deed_line-clause-adds : goal.returns-in_err-deed_line-clause-
 returns-in_err-deed_line-clause-adds g c =
     let clients = g.C.Clients.meaning c.args.clients.now in
     adds_on c.from_residual.result outcome.Memory c.from_residual.ensures.1 clients _ _ _ _ _
-    (none_added c.images_stand.ensures clients c.args.store.now _ _ c.requires.stands.is_store)
+    (none_added c.images_stand.ensures clients c.args.store.now _ _ c.requires.stands.gathering.still_open)
 
 pub returns-in_err-deed_line-clause-stands : goal.returns-in_err-deed_line-clause-stands
 returns-in_err-deed_line-clause-stands g c =
