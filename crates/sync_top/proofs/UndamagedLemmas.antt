@@ -1,9 +1,8 @@
 -- No command damages a store.
 use Rattle.std.proofs.Common.{◌≡◌, ℕ, Bool, true, false, List, refl, sym, ap, ◌∙◌, subst, inl, inr}
 use Rattle.std.proofs.Common.{Option, Some, None}
-use Rattle.std.specs.Prelude.{◌⊎◌, ◌&&◌, ◌||◌, if◌then◌else◌, nat_lt}
+use Rattle.std.specs.Prelude.{◌⊎◌}
 use Rattle.outside.specs.Files.{Two, File, IsImage, read_files}
-use Rattle.outside.specs.Frames.{generation_in, is_open, journal_file}
 use Rattle.outside.specs.Outside.{Outside, Moment, MomentsAre, IsNow}
 use Rattle.outside.specs.Runs.{TellsAll}
 use Rattle.outside.proofs.CallSteps.{moments_map, moments_none}
@@ -14,9 +13,9 @@ use Rattle.sync_rules.specs.declared.states.Refused.TheVariants as refused
 use Rattle.sync_rules.specs.Clients.{Meaning}
 use Rattle.sync_rules.specs.Facts.{Facts, Id}
 use Rattle.entry_codec.specs.Standing.{Standing, journal, no_store}
-use Rattle.entry_codec.specs.ReadingFiles.{read_standing, stands_in}
 use Rattle.file_standing.specs.Standing.{stands}
-use Rattle.sync_store.specs.Begin.{InitMoment, has_open}
+use Rattle.sync_store.specs.Begin.{InitMoment}
+use Rattle.node_life.proofs.BegunLemmas.{no_store_there}
 use Rattle.sync_words.specs.declared.outcome.Outcome.{Outcome}
 use Rattle.sync_words.specs.declared.outcome.Outcome.TheVariants as outcome
 use Rattle.commands.specs.Reading.{Asked}
@@ -42,29 +41,6 @@ use Rattle.sync_top.specs.Undamaged.{NeverDamaged, StandsForJournal, Undamaged}
 use Rattle.sync_run.specs.Headline.{Headline, IsUntouched, StandsForRun, sent_at_moment}
 use Rattle.store_commands.specs.Stopping.{StoodFor}
 use Rattle.sync_words.specs.declared.link_words.LinkWords.{LinkWords}
-
--- ---- a store that is begun
-
--- the journal's file by which headers are open, and whether the second is the later one
-abbrev file_where : (first second later : Bool) → Option ℕ
-file_where first second later =
-    if first then (if second && later then Some 1 else Some 0) else
-    (if second then Some 1 else None)
-
-no_file : (a b c : Bool) → (a || b) ≡ false → file_where a b c ≡ None
-no_file true b c none = absurd (let e : true ≡ false = none in cc)
-no_file false true c none = absurd (let e : true ≡ false = none in cc)
-no_file false false c none = refl
-
-none_open : (two : Two File) → has_open two ≡ false → journal_file (read_files two) ≡ None
-none_open two none =
-    no_file (is_open two.first.now) (is_open two.second.now)
-    (nat_lt (generation_in two.first.now) (generation_in two.second.now)) none
-
-no_store_there : (clients : Meaning) (two : Two File) → has_open two ≡ false → stands clients
-    (read_files two) ≡ no_store
-unfolding read_standing
-no_store_there clients two none = ap (stands_in clients (read_files two)) (none_open two none)
 
 -- ---- the moments of the commands
 
