@@ -1,10 +1,10 @@
 -- What each moment of a life leaves.
-use Rattle.std.proofs.Common.{◌≡◌, false, List, [], ◌∷◌, ◌++◌, append-nil, refl, sym, ◌∙◌, subst, inl, inr, Some}
+use Rattle.std.proofs.Common.{◌≡◌, false, List, [], ◌∷◌, ◌++◌, refl, sym, ap, ◌∙◌, subst, inl, inr, Option, Some}
 use Rattle.std.specs.Prelude.{◌⊎◌}
 use Rattle.outside.specs.Files.{File, Two, read_files}
 use Rattle.outside.specs.Outside.{IsNow, Moment, MomentsAre, Outside}
 use Rattle.outside.specs.Streams.{Stream}
-use Rattle.outside.proofs.CallSteps.{moments_map, moments_none, moments_then, told_on}
+use Rattle.outside.proofs.CallSteps.{moments_map, moments_none, moments_then, run_none, told_on}
 use Rattle.request_frames.specs.Requests.{Request}
 use Rattle.sync_rules.specs.Clients.{Meaning}
 use Rattle.sync_rules.specs.Facts.{Journal}
@@ -20,6 +20,7 @@ use Rattle.node_life.specs.Requests.{AnswersRequest}
 use Rattle.node_life.specs.Serving.{BeginsNot, HasServed, LivesOn}
 use Rattle.node_life.specs.Settling.{HasBegun}
 use Rattle.node_life.specs.Ways.{IsOnWay, IsOnWayThrough, StandsInLife}
+use Rattle.node_life.proofs.SettleLemmas.{begins_not}
 use Rattle.node_life.proofs.WayLemmas.{Reached, image_stands, request_end, request_told, request_way}
 
 module _ {H : Type 0} (tells : H → Outside) (clients : Meaning) where
@@ -120,3 +121,40 @@ module _ {H : Type 0} (tells : H → Outside) (clients : Meaning) where
 
     pub lives_on : LivesOn tells clients old new input input' out out' came
     lives_on = record { begun = begun; begins = begins; lived = lived; moments = life_stands }
+
+-- ---- a node that did not begin
+
+-- each moment stands for a journal that has some of its settling
+pub begun_moments : (clients : Meaning) (old new : Outside) (out : Stream) (came : Outcome)
+    → HasBegun clients old new out came → (two : Two File) → old.files ≡ Some two
+    → MomentsAre old new (λ m. IsNow two old.links m
+    ⊎ StoodFor (stands clients (read_files two)) (λ first. StandsInLife clients first [] m.files))
+begun_moments clients old new out came begins two files = elim begins.did [
+  | inl early ↦ moments_map old new _ _ (λ m w. inl w) (early.told two files).rests.moments
+  | inr did ↦
+      let told = did.told two files in
+      moments_map old new _ _ (λ m w. elim w [
+        | inl now ↦ inl now
+        | inr on ↦ inr (record {
+          before = told.before;
+          stood = told.stood;
+          has = record { whole = on.whole; is = inl on.has; stands_for = on.stands_for };
+        })
+      ]) told.has.1.moments
+]
+
+same_two : (files : Option (Two File)) (two two' : Two File) → files ≡ Some two → files ≡ Some two'
+    → read_files two' ≡ read_files two
+same_two files two two' told told' =
+    let both : Some two' ≡ Some two = sym told' ∙ told in
+    let one : two' ≡ two = cc in
+    ap read_files one
+
+-- memory was wanting before anything was done
+pub begins_nothing : (clients : Meaning) (o : Outside) (out : Stream)
+    → HasBegun clients o o out outcome.Memory
+begins_nothing clients o out =
+    begins_not clients o o out outcome.Memory (run_none o) (λ two files. record {
+      moments = moments_none o _ (λ m w. o.now_is two m files w);
+      kept = λ two' files'. same_two o.files two two' files files';
+    }) tt (λ two files. tt)

@@ -142,6 +142,7 @@ memory_comes clients (Usage place) o input input' out out' idle quiet = inr (ref
 memory_comes clients (Do (command.Try name descriptor)) o input input' out out' idle quiet =
     tries_memory clients name descriptor (clients.kind_of name 0) input input' out out' quiet
 memory_comes clients (Do command.Records) o input input' out out' idle quiet = quiet
+memory_comes clients (Do command.Serve) o input input' out out' idle quiet = tt
 memory_comes clients (Do command.Quit) o input input' out out' idle quiet = inr (refl, quiet)
 memory_comes clients (Do _) o input input' out out' idle quiet =
     inr (refl, does_nothing o input input' out out' idle quiet)

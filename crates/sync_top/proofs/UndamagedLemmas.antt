@@ -35,8 +35,11 @@ use Rattle.mailbox_commands.specs.Sending.{HasSentMail}
 use Rattle.mailbox_commands.specs.Taking.{HasTakenMail}
 use Rattle.sync_store.specs.Moments.{JournalMoment}
 use Rattle.sync_node.specs.Output.{heard_on}
-use Rattle.sync_top.specs.Duties.{duty_of, sending_of}
-use Rattle.sync_top.specs.Run.{AsksSync, WordsComeTo, ComesOfStore, Covered, KeepsHost}
+use Rattle.node_requests.specs.Requests.{sending_of}
+use Rattle.sync_top.specs.Duties.{duty_of}
+use Rattle.sync_top.proofs.ServeLemmas.{opens_undamaged}
+use Rattle.sync_top.specs.Sound.{LifeOpens}
+use Rattle.sync_top.specs.Run.{AsksServe, AsksSync, WordsComeTo, ComesOfStore, Covered, KeepsHost}
 use Rattle.sync_top.specs.Undamaged.{NeverDamaged, StandsForJournal, Undamaged}
 use Rattle.sync_run.specs.Headline.{Headline, IsUntouched, StandsForRun, sent_at_moment}
 use Rattle.store_commands.specs.Stopping.{StoodFor}
@@ -219,14 +222,17 @@ module _ {H : Type 0} (tells : H → Outside) (clients : Meaning) (h h' : H)
   pub undamaged : (words : Asked) → WordsComeTo clients words (tells h)
       (tells h') input input' out out' came → KeepsHost words h h'
       → Covered clients words (tells h) (tells h')
+      → (AsksServe words → LifeOpens clients (tells h) (tells h'))
       → NeverDamaged clients words (tells h) (tells h')
-  undamaged (Usage place) comes keeps covered told = kept keeps
-  undamaged (Do (command.Try name descriptor)) comes keeps covered told = kept keeps
-  undamaged (Do command.Records) comes keeps covered told = kept keeps
-  undamaged (Do command.Quit) comes keeps covered told = kept keeps
-  undamaged (Do (command.Sync turns quiet links)) comes keeps covered told =
+  undamaged (Usage place) comes keeps covered opens told = kept keeps
+  undamaged (Do (command.Try name descriptor)) comes keeps covered opens told = kept keeps
+  undamaged (Do command.Records) comes keeps covered opens told = kept keeps
+  undamaged (Do command.Quit) comes keeps covered opens told = kept keeps
+  undamaged (Do command.Serve) comes keeps covered opens told =
+      opens_undamaged clients (tells h) (tells h') (opens tt)
+  undamaged (Do (command.Sync turns quiet links)) comes keeps covered opens told =
       of_run clients (tells h) (tells h') links covered (told tt)
-  undamaged (Do asked) comes keeps covered told =
+  undamaged (Do asked) comes keeps covered opens told =
       of_store clients (tells h) (tells h')
       ((duty_of clients asked).comes (tells h) (tells h') input input' out out') input input' out
       out' came
