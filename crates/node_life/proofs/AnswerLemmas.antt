@@ -15,7 +15,6 @@ use Rattle.commands.specs.declared.command.Command.{Command}
 use Rattle.commands.specs.declared.command.Command.TheVariants as command
 use Rattle.commands.specs.declared.fault.WordsFault.{WordsFault}
 use Rattle.commands.specs.declared.fault.WordsFault.TheVariants as fault
-use Rattle.store_commands.specs.Commit.{ExtendsBy}
 use Rattle.store_commands.specs.Serving.{IsReadyToServe, ServesOn}
 use Rattle.stream_commands.specs.Streams.{TriesClient}
 use Rattle.node_service.specs.Words.{AreWords, IsAskedBy, WordsAsk, parts_of}
@@ -59,11 +58,6 @@ pub synced_stays : (clients : Meaning) (s : StoreValue) (o : Outside) (reply : R
     → ((reply.came ≡ outcome.DiskFault) × (reply.ends ≡ true)) ⊎ StandsNow clients o
 synced_stays clients s o reply (inl failed) = inl failed
 synced_stays clients s o reply (inr ready) = inr (stands_ready clients s o ready)
-
--- a journal that was not settled is not done
-pub not_done : (o o1 : Outside) (came : Outcome) → ExtendsBy o o1 (Err came) → came ≡ outcome.Done → ⊥
-not_done o o1 came by is =
-    subst (λ (x : Outcome). ExtendsBy o o1 (Err x)) is by
 
 -- ---- what is said
 

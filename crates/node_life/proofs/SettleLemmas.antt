@@ -1,7 +1,7 @@
 -- A journal that is settled alone.
 use Rattle.std.proofs.Common.{◌≡◌, ℕ, ◌+◌, ◌≤◌, List, [], ◌++◌, refl, sym, ap, ◌∙◌, subst, inl, inr}
 use Rattle.std.proofs.Common.{append-nil, arith, add-zero, Option, None, Some, Result, Ok, Err}
-use Rattle.std.specs.Prelude.{IsErrOf}
+use Rattle.std.specs.Prelude.{IsErrAnd, IsErrOf}
 use Rattle.std.specs.Io.KnownBytes.{Appends}
 use Rattle.outside.specs.declared.limits.TheConstants.{MAX_JOURNAL}
 use Rattle.outside.specs.Files.{File, Two, read_files}
@@ -138,3 +138,19 @@ pub stands_ready : (clients : Meaning) (s : StoreValue) (o : Outside) → IsRead
 stands_ready clients s o ready = λ two files.
     let fit = ready.loaded.opened.ready.fits two files in
     record { of = fit.0; synced = fits_synced clients s fit.0 two fit.1 ready.short }
+
+-- ---- an answer that goes on by `?`
+
+pub on_err : {V : Type 0} (P : Outcome → Type 0) (r : Result V Outcome) (x : Outcome)
+    → IsErrAnd r (λ e. e ≡ x) → P x → P (came_to r)
+on_err P (Ok v) x is p = absurd is
+on_err P (Err came) x is p = subst P (sym is) p
+
+-- what was not loaded or not settled is not done
+pub not_loaded : (o o1 : Outside) (came : Outcome) → LoadedBy o o1 (Err came)
+    → came ≡ outcome.Done → ⊥
+not_loaded o o1 came by is = subst (λ (x : Outcome). LoadedBy o o1 (Err x)) is by
+
+pub not_settled : (o o1 : Outside) (came : Outcome) → ExtendsBy o o1 (Err came)
+    → came ≡ outcome.Done → ⊥
+not_settled o o1 came by is = subst (λ (x : Outcome). ExtendsBy o o1 (Err x)) is by

@@ -1,8 +1,9 @@
 //! The command `serve std`.
-ghost use Rattle.std.specs.Prelude.{IfOk};
+ghost use Rattle.std.specs.Prelude.{◌≡◌, IfErr, IfOk};
 ghost use Rattle.outside.specs.Streams.{Stream};
 ghost use Rattle.store_commands.specs.Serving.{IsServed};
 ghost use Rattle.sync_words.specs.Outcomes.{came_to};
+ghost use Rattle.sync_words.specs.declared.outcome.Outcome.TheVariants as outcome;
 ghost use Rattle.node_life.specs.Serving.{HasServed};
 ghost use Rattle.node_life.specs.Settling.{HasBegun};
 
@@ -59,6 +60,7 @@ fn begin<H: Host, C: Clients>(
     ensures begun { (out : Stream) → HasBegun (C.meaning clients.now) (H.tells host.old)
         (H.tells host.new) out (came_to result) }
     ensures served { IfOk result (λ s. IsServed (C.meaning clients.now) s (H.tells host.new)) }
+    ensures undone { IfErr result (λ came. came ≡ outcome.Done → ⊥) }
 {
     let mut store = load_store(alloc, hasher, host, clients)?;
     migrate_and_settle(&mut store, host, clients)?;
