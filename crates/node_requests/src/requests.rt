@@ -90,8 +90,10 @@ pub fn obey<H: Host, S: Source, W: Sink, C: Clients>(
             send_mail_loaded(alloc, store, sending, host, out, clients)
         }
         Command::Status => print_status_loaded(alloc, store, host, out),
-        Command::Try(_, _) | Command::Records | Command::Sync(_, _, _) | Command::Quit => {
-            unreachable!()
-        }
+        Command::Try(_, _)
+        | Command::Records
+        | Command::Sync(_, _, _)
+        | Command::Serve
+        | Command::Quit => unreachable!(),
     }
 }

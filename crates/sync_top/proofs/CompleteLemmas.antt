@@ -56,12 +56,13 @@ use Rattle.store_commands.specs.Works.{DoesWork, HasWorked, IsWorkFull, Work}
 use Rattle.mailbox_commands.specs.Sending.{HasSentMail, out_errand}
 use Rattle.mailbox_commands.specs.Taking.{HasTakenMail, IsMail, IsTooMuch, in_errand, outcome_at}
 use Rattle.store_commands.proofs.Stood.{last_lacks}
-use Rattle.sync_top.specs.declared.input.TheConstants.{MAX_INPUT}
+use Rattle.stream_commands.specs.declared.input.TheConstants.{MAX_INPUT}
 use Rattle.sync_top.specs.Complete.{BytesDecide, ComesOut, Complete, NothingFails, ServesCommand}
 use Rattle.sync_top.specs.Complete.{StreamDecides}
 use Rattle.sync_top.specs.Duties.{duty_of, sending_of, to_send, to_take}
-use Rattle.sync_top.specs.Run.{WordsComeTo, ReadsStream, ReadsWhole, ReportsOutcome}
-use Rattle.sync_top.specs.Run.{Streams, TriesClient, outcome_of}
+use Rattle.stream_commands.specs.Streams.{ReadsStream, ReadsWhole}
+use Rattle.sync_top.specs.Run.{WordsComeTo, ReportsOutcome}
+use Rattle.stream_commands.specs.Streams.{Streams, TriesClient, outcome_of}
 use Rattle.sync_top.specs.Serving.{MayAddPlanned, MayAudit, MayCompact, MayPost, MayShow}
 use Rattle.sync_top.proofs.CompleteRuns.{run_comes_out}
 

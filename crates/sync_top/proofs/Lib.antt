@@ -1,6 +1,3 @@
-pub mod InputLemmas
-pub mod PlayLemmas
-pub mod StreamLemmas
 pub mod StateLemmas
 pub mod UndamagedLemmas
 pub mod HeadlineLemmas

@@ -38,9 +38,9 @@ use Rattle.store_commands.specs.Plans.{group_plan}
 use Rattle.sharing_commands.specs.declared.saying.Speech.{Speech}
 use Rattle.sharing_commands.specs.Sayings.{say_plan}
 use Rattle.store_commands.proofs.Passing.{passed}
-use Rattle.sync_top.specs.declared.input.TheConstants.{MAX_INPUT}
+use Rattle.stream_commands.specs.declared.input.TheConstants.{MAX_INPUT}
 use Rattle.sync_top.specs.Run.{WordsComeTo, DoesNothing, ReportsOutcome}
-use Rattle.sync_top.specs.Run.{ReadsStream, ReadsWhole, Streams, TriesClient, outcome_of}
+use Rattle.stream_commands.specs.Streams.{ReadsStream, ReadsWhole, Streams, TriesClient, outcome_of}
 use Rattle.sync_top.specs.States.{TellsStates, TellsWhole}
 
 -- a stream of records does not end as links do

@@ -36,6 +36,7 @@ use Rattle.mailbox_commands.specs.Sending.{HasSentMail, out_errand}
 use Rattle.mailbox_commands.specs.Taking.{HasTakenMail, IsMail, in_errand}
 use Rattle.sync_run.specs.declared.run.Limits.{Limits}
 use Rattle.sync_run.specs.Ran.{HasRun}
+use Rattle.stream_commands.specs.Streams.{UntouchedStreams}
 use Rattle.sync_top.specs.Serving.{MayAddPlanned, MayAudit, MayCompact, MayPost}
 use Rattle.sync_top.specs.Serving.{MayShow, MaySync, MayDoWork}
 
@@ -77,10 +78,6 @@ speech_of group timestamp join def =
 -- what the words of `mailbox out` ask for
 abbrev pub sending_of : (contact latency count : ℕ) → Sending
 sending_of contact latency count = record { contact = contact; latency = latency; count = count }
-
--- nothing was read or written
-abbrev pub UntouchedStreams : Stream → Stream → Stream → Stream → Type 0
-UntouchedStreams input input' out out' = IsIdle input input' × IsIdle out out'
 
 -- a mailbox file is read
 abbrev pub to_take : Meaning → (contact : ℕ) → Duty

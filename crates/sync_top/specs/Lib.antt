@@ -1,6 +1,3 @@
-pub mod RecordText
-pub mod Input
-pub mod Plays
 pub mod Serving
 pub mod Duties
 pub mod Run

@@ -13,14 +13,15 @@ ghost use Rattle.commands.specs.Reading.{asks, IsCommandWithin};
 ghost use Rattle.commands.specs.Reading.Asked.{Do};
 
 use crate::laws::runs_are_sound;
-use crate::streams::{group_of, list_records, try_group};
 use audit_commands::print_audit;
 use commands::{Command, read_words};
 use journal_play::play_says;
+use node_life::serve_requests;
 use mailbox_commands::{Sending, send_mail, take_mail};
 use outside::{Host, Sink, Source, write_text};
 use sharing_commands::{Speech, agree, say};
 use status_commands::print_status;
+use stream_commands::{group_of, list_records, try_group};
 use std::alloc::Global;
 use std::hash::RandomState;
 use store_commands::{
@@ -120,6 +121,7 @@ fn obey_any<H: Host, S: Source, W: Sink, C: Clients>(
                 Err(came) => came,
             }
         }
+        Command::Serve => serve_requests(alloc, hasher, host, input, out, clients),
         asked => Outcome::of(obey(alloc, hasher, asked, host, input, out, clients)),
     }
 }
@@ -198,7 +200,7 @@ fn obey<H: Host, S: Source, W: Sink, C: Clients>(
             };
             send_mail(alloc, hasher, sending, host, out, clients)
         }
-        Command::Sync(_, _, _) => unreachable!(),
+        Command::Sync(_, _, _) | Command::Serve => unreachable!(),
     }
 }
 

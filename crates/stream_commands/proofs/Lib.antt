@@ -1,0 +1,3 @@
+pub mod InputLemmas
+pub mod PlayLemmas
+pub mod StreamLemmas
