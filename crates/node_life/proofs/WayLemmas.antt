@@ -2,6 +2,7 @@
 use Rattle.std.proofs.Common.{◌≡◌, ℕ, ◌≤◌, Bool, true, false, List, [], ◌∷◌, ◌++◌, append-nil, refl, sym, ap}
 use Rattle.std.proofs.Common.{◌∙◌, subst, inl, inr, Option, None, Some, arith}
 use Rattle.std.specs.Prelude.{◌⊎◌, is_some}
+use Rattle.std.specs.Io.KnownBytes.{Appends}
 use Rattle.outside.specs.Files.{File, IsFileImage, IsImage, NothingPending, Two, read_files, settled}
 use Rattle.outside.specs.Links.{sent_of}
 use Rattle.outside.specs.Outside.{IsNow, Moment, MomentsAre, Outside}
@@ -114,8 +115,10 @@ module _ (clients : Meaning) (j : Journal) (two : Two File) (synced : StandsSync
       let told = did.did.told two files in
       let same : told.before ≡ j =
       one_journal (stands clients (read_files two)) j told.before synced.stands_for told.stood in
-      let ended : OnceSettled clients j (λ whole. StandsSynced clients two' whole × _) =
-      subst (λ (k : Journal). OnceSettled clients k _) same (told.has.1.ends two' files').0 in
+      let whole_is : Journal → Type 0 =
+      λ whole. StandsSynced clients two' whole × Appends (Some []) (Some []) [] in
+      let ended : OnceSettled clients j whole_is =
+      subst (λ (k : Journal). OnceSettled clients k whole_is) same (told.has.1.ends two' files').0 in
       record {
         first = ended.first;
         settles = ended.settles;

@@ -66,53 +66,57 @@ pub record Answers (does : (input input' out out' : Stream) → Outcome → Type
   pub did : does input input' out out' came
   pub is : said ≡ said_of came printed
 
-module _ {H : Type 0} (tells : H → Outside) (clients : Meaning) where
-  -- the journal is settled, and then the command is done over the files as they stand
-  pub record AnswersSettled (given : (input input' : Stream) → Type 0) (asked : Command)
-      (old new : H) (said : Said) : Type 0 where
-    pub between : H
-    pub settled : HasSettled clients (tells old) (tells between) outcome.Done
-    pub answers : Answers (DoesRequest clients asked (tells between) (tells new)) given said
+-- the journal is settled, and then the command is done over the files as they stand
+pub record AnswersSettled {H : Type 0} (tells : H → Outside) (clients : Meaning)
+    (given : (input input' : Stream) → Type 0) (asked : Command) (old new : H) (said : Said)
+    : Type 0 where
+  pub between : H
+  pub settled : HasSettled clients (tells old) (tells between) outcome.Done
+  pub answers : Answers (DoesRequest clients asked (tells between) (tells new)) given said
 
-  -- the journal was not settled, for want of memory or since the disk failed, and nothing was done
-  -- but some of its settling
-  pub record StaysUnsettled (old new : H) (said : Said) : Type 0 where
-    pub came : Outcome
-    pub settled : HasSettled clients (tells old) (tells new) came
-    pub undone : came ≡ outcome.Done → ⊥
-    pub is : said ≡ said_of came []
+-- the journal was not settled, for want of memory or since the disk failed, and nothing was done but
+-- some of its settling
+pub record StaysUnsettled {H : Type 0} (tells : H → Outside) (clients : Meaning) (old new : H)
+    (said : Said) : Type 0 where
+  pub came : Outcome
+  pub settled : HasSettled clients (tells old) (tells new) came
+  pub undone : came ≡ outcome.Done → ⊥
+  pub is : said ≡ said_of came []
 
-  -- By what the words ask for: what is done is what the command says, of which those that use no
-  -- store leave the host as it is.
-  abbrev pub AnswersAsked : (given : (input input' : Stream) → Type 0) → Asked → (old new : H)
-      → Said → Type 0
-  AnswersAsked given (Usage place) old new said =
-      (new ≡ old) × (said ≡ bare (outcome.Usage place))
-  AnswersAsked given (Do command.Quit) old new said = (new ≡ old) × (said ≡ goodbye)
-  AnswersAsked given (Do (command.Sync turns quiet links)) old new said =
-      (new ≡ old) × (said ≡ bare outcome.NodeHolds)
-  AnswersAsked given (Do command.Serve) old new said =
-      (new ≡ old) × (said ≡ bare outcome.NodeHolds)
-  AnswersAsked given (Do (command.Try name descriptor)) old new said =
-      (new ≡ old) × Answers (TriesClient clients name descriptor (clients.kind_of name 0)) given said
-  AnswersAsked given (Do command.Records) old new said =
-      (new ≡ old) × Answers (Streams (λ items text. text ≡ items_text items)) given said
-  AnswersAsked given (Do asked) old new said =
-      AnswersSettled given asked old new said ⊎ StaysUnsettled old new said
+-- By what the words ask for: what is done is what the command says, of which those that use no store
+-- leave the host as it is.
+abbrev pub AnswersAsked : {H : Type 0} → (tells : H → Outside) → Meaning
+    → (given : (input input' : Stream) → Type 0) → Asked → (old new : H) → Said → Type 0
+AnswersAsked tells clients given (Usage place) old new said =
+    (new ≡ old) × (said ≡ bare (outcome.Usage place))
+AnswersAsked tells clients given (Do command.Quit) old new said = (new ≡ old) × (said ≡ goodbye)
+AnswersAsked tells clients given (Do (command.Sync turns quiet links)) old new said =
+    (new ≡ old) × (said ≡ bare outcome.NodeHolds)
+AnswersAsked tells clients given (Do command.Serve) old new said =
+    (new ≡ old) × (said ≡ bare outcome.NodeHolds)
+AnswersAsked tells clients given (Do (command.Try name descriptor)) old new said =
+    (new ≡ old) × Answers (TriesClient clients name descriptor (clients.kind_of name 0)) given said
+AnswersAsked tells clients given (Do command.Records) old new said =
+    (new ≡ old) × Answers (Streams (λ items text. text ≡ items_text items)) given said
+AnswersAsked tells clients given (Do asked) old new said =
+    AnswersSettled tells clients given asked old new said
+    ⊎ StaysUnsettled tells clients old new said
 
-  -- the words of a request ask for something, and that is answered
-  pub record AnswersWords (request : Request) (old new : H) (said : Said) : Type 0 where
-    pub words : List (List ℕ)
-    pub are : AreWords (parts_of request.words) words
-    pub answers : AnswersAsked (ReadsGiven request.size request.input) (asks words) old new said
+-- the words of a request ask for something, and that is answered
+pub record AnswersWords {H : Type 0} (tells : H → Outside) (clients : Meaning) (request : Request)
+    (old new : H) (said : Said) : Type 0 where
+  pub words : List (List ℕ)
+  pub are : AreWords (parts_of request.words) words
+  pub answers : AnswersAsked tells clients (ReadsGiven request.size request.input) (asks words) old
+      new said
 
-  -- A request is answered; or memory was wanting, and nothing was done. What it left is synced, so
-  -- that what is answered stands whatever comes; or the disk failed, and the node ends.
-  pub record AnswersRequest (request : Request) (old new : H) (came : Outcome) (out : List ℕ)
-      (ends : Bool) : Type 0 where
-    pub does : ((new ≡ old) × (record { came = came; out = out; ends = ends } ≡ bare outcome.Memory))
-        ⊎ AnswersWords request old new (record { came = came; out = out; ends = ends })
-    pub synced : ((came ≡ outcome.DiskFault) × (ends ≡ true)) ⊎ StandsNow clients (tells new)
+-- A request is answered; or memory was wanting, and nothing was done. What it left is synced, so that
+-- what is answered stands whatever comes; or the disk failed, and the node ends.
+pub record AnswersRequest {H : Type 0} (tells : H → Outside) (clients : Meaning) (request : Request)
+    (old new : H) (came : Outcome) (out : List ℕ) (ends : Bool) : Type 0 where
+  pub does : ((new ≡ old) × (record { came = came; out = out; ends = ends } ≡ bare outcome.Memory))
+      ⊎ AnswersWords tells clients request old new (record { came = came; out = out; ends = ends })
+  pub synced : ((came ≡ outcome.DiskFault) × (ends ≡ true)) ⊎ StandsNow clients (tells new)
 
 -- ---- its parts
 
