@@ -1,47 +1,52 @@
 //! The input of a request.
+ghost use Rattle.std.specs.Prelude.{◌≡◌, ◌<◌, Some};
+ghost use Rattle.node_life.specs.Inputs.{failing_told, given_told, IsGivenTooLong};
+
 use outside::{Failed, Source};
-use request_frames::{InputSize, MAX_INPUT};
+use request_frames::MAX_INPUT;
 
-// A byte that begins no record.
-const NO_RECORD: u8 = 255;
+/// A byte that begins no record.
+pub const NO_RECORD: u8 = 255;
 
-/// The input of a request, as its command reads it: its bytes; or an input whose reads fail; or one
-/// that is longer than any command takes, and whose first byte begins no record.
+/// The input of a request that could be read: its bytes, or more bytes than any command takes.
 #[derive(Drop)]
-pub struct Input<'a> {
-    bytes: &'a [u8],
-    filling: usize,
-    fails: bool,
-    faults: u64,
+pub struct Given<'a> {
+    pub bytes: &'a [u8],
+    pub filling: usize,
 }
 
-impl<'a> Input<'a> {
-    /// The input of which this was said, and whose bytes are these, where it has any.
-    pub fn new(size: InputSize, bytes: &'a [u8]) -> Input<'a> {
-        let (filling, fails) = match size {
-            InputSize::Bytes(_) => (0, false),
-            InputSize::Long => (MAX_INPUT + 1, false),
-            InputSize::Failed => (1, true),
-        };
-        Input {
-            bytes,
-            filling,
-            fails,
-            faults: 0,
+impl<'a> Given<'a> {
+    /// An input of these bytes.
+    pub fn of(bytes: &'a [u8]) -> Given<'a>
+        ensures { (given_told result).bytes ≡ Some bytes.now }
+    {
+        Given { bytes, filling: 0 }
+    }
+
+    /// An input of more bytes than any command takes, none of which begins a record.
+    pub fn too_long() -> Given<'static>
+        ensures { IsGivenTooLong (given_told result) }
+    {
+        Given {
+            bytes: &[],
+            filling: past_all(),
         }
     }
 }
 
-impl Source for Input<'_> {
-    ghost use Rattle.node_life.specs.Inputs.{input_told};
+// More bytes than any command takes.
+fn past_all() -> usize
+    ensures { MAX_INPUT < result }
+{
+    MAX_INPUT + 1
+}
 
-    ghost tells = { input_told };
+impl Source for Given<'_> {
+    ghost use Rattle.node_life.specs.Inputs.{given_told};
+
+    ghost tells = { given_told };
 
     fn read(&mut self, buf: &mut [u8]) -> Result<usize, Failed> {
-        if self.fails {
-            self.faults = self.faults.saturating_add(1);
-            return Err(Failed);
-        }
         if self.bytes.is_empty() {
             let n = buf.len().min(self.filling);
             buf[..n].fill(NO_RECORD);
@@ -52,5 +57,29 @@ impl Source for Input<'_> {
         buf[..n].copy_from_slice(&self.bytes[..n]);
         self.bytes = &self.bytes[n..];
         Ok(n)
+    }
+}
+
+/// The input of a request that could not be read: each call fails.
+#[derive(Drop)]
+pub struct Failing {
+    pub faults: u64,
+}
+
+impl Failing {
+    /// An input of which no call was made.
+    pub fn new() -> Failing {
+        Failing { faults: 0 }
+    }
+}
+
+impl Source for Failing {
+    ghost use Rattle.node_life.specs.Inputs.{failing_told};
+
+    ghost tells = { failing_told };
+
+    fn read(&mut self, _buf: &mut [u8]) -> Result<usize, Failed> {
+        self.faults = self.faults.saturating_add(1);
+        Err(Failed)
     }
 }

@@ -59,7 +59,8 @@ use Rattle.store_commands.proofs.Stood.{last_lacks}
 use Rattle.stream_commands.specs.declared.input.TheConstants.{MAX_INPUT}
 use Rattle.sync_top.specs.Complete.{BytesDecide, ComesOut, Complete, NothingFails, ServesCommand}
 use Rattle.sync_top.specs.Complete.{StreamDecides}
-use Rattle.sync_top.specs.Duties.{duty_of, sending_of, to_send, to_take}
+use Rattle.node_requests.specs.Requests.{sending_of}
+use Rattle.sync_top.specs.Duties.{duty_of, to_send, to_take}
 use Rattle.stream_commands.specs.Streams.{ReadsStream, ReadsWhole}
 use Rattle.sync_top.specs.Run.{WordsComeTo, ReportsOutcome}
 use Rattle.stream_commands.specs.Streams.{Streams, TriesClient, outcome_of}
@@ -483,6 +484,8 @@ command_comes_out clients (command.Try name descriptor) old new input input' out
 command_comes_out clients command.Records old new input input' out out' came comes serves fails =
     streams_decide input input' out out' came _ comes fails.source fails.sink
 command_comes_out clients command.Quit old new input input' out out' came comes serves fails =
+    absurd serves
+command_comes_out clients command.Serve old new input input' out out' came comes serves fails =
     absurd serves
 command_comes_out clients asked old new input input' out out' came (inl did) serves fails =
     duty_comes_out clients old new input input' out out' fails asked came did serves

@@ -1,4 +1,5 @@
 pub mod StateLemmas
+mod ServeLemmas
 pub mod UndamagedLemmas
 pub mod HeadlineLemmas
 pub mod SoundLemmas

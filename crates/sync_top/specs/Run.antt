@@ -45,7 +45,7 @@ ComesOfStore did old new input input' out out' came =
     did came ⊎ ((came ≡ outcome.Memory) × DoesNothing old new input input' out out')
 
 -- what the words ask for, and what it comes to; faulty words come to their place, and nothing serves
--- that could end
+-- that could end; what a node comes to that serves is said by its life (`Serves`)
 abbrev pub WordsComeTo : Meaning → Asked → (old new : Outside) → (input input' out out' : Stream)
     → Outcome → Type 0
 WordsComeTo clients (Usage place) old new input input' out out' came =
@@ -56,6 +56,7 @@ WordsComeTo clients (Do command.Records) old new input input' out out' came =
     Streams (λ items text. text ≡ items_text items) input input' out out' came
 WordsComeTo clients (Do command.Quit) old new input input' out out' came =
     EndsAtOnce outcome.NoNode input input' out out' came
+WordsComeTo clients (Do command.Serve) old new input input' out out' came = Unit {0}
 WordsComeTo clients (Do asked) old new input input' out out' came =
     ComesOfStore ((duty_of clients asked).comes old new input input' out out') old new input input'
     out out' came
@@ -64,6 +65,11 @@ WordsComeTo clients (Do asked) old new input input' out out' came =
 abbrev pub AsksSync : Asked → Type 0
 AsksSync (Do (command.Sync turns quiet links)) = Unit {0}
 AsksSync _ = ⊥
+
+-- the words ask for a node that serves
+abbrev pub AsksServe : Asked → Type 0
+AsksServe (Do command.Serve) = Unit {0}
+AsksServe _ = ⊥
 
 -- Whatever the links bring, whatever call fails and whenever the device stops, each moment of a run
 -- of sessions is covered.

@@ -4,7 +4,7 @@ use Rattle.record_grammar.specs.Stream.{items}
 use Rattle.stream_commands.specs.declared.input.TheConstants.{MAX_INPUT}
 use Rattle.sync_words.specs.declared.outcome.Outcome.TheVariants as outcome
 use Rattle.stream_commands.specs.RecordText.{items_text}
-use Rattle.sync_top.proofs.StateLemmas.{streams_on}
+use Rattle.stream_commands.proofs.AnswerLemmas.{streams_on}
 use Rattle.stream_commands.proofs.StreamLemmas.{streams_of}
 use Rattle.stream_commands.proofs.streams.list_records.Goals as goal
 

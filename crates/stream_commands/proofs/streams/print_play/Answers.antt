@@ -1,7 +1,7 @@
 use Rattle.std.proofs.Common.{refl, inl, inr}
 use Rattle.std.specs.String.{string_bytes}
 use Rattle.sync_words.specs.declared.outcome.Outcome.TheVariants as outcome
-use Rattle.sync_top.proofs.StateLemmas.{came_on}
+use Rattle.stream_commands.proofs.AnswerLemmas.{came_on}
 use Rattle.stream_commands.proofs.streams.print_play.Goals as goal
 
 pub returns-in_err-text : goal.returns-in_err-text

@@ -6,7 +6,7 @@ use Rattle.sync_ids.specs.Values.{GroupValue}
 use Rattle.sync_rules.specs.Clients.{Meaning}
 use Rattle.sync_words.specs.declared.outcome.Outcome.{Outcome}
 use Rattle.sync_words.specs.declared.outcome.Outcome.TheVariants as outcome
-use Rattle.sync_top.proofs.StateLemmas.{tries_memory, tries_on}
+use Rattle.stream_commands.proofs.AnswerLemmas.{tries_memory, tries_on}
 use Rattle.stream_commands.specs.Streams.{Streams, TriesClient}
 use Rattle.sync_words.specs.Outcomes.{came_to}
 use Rattle.stream_commands.proofs.streams.try_group.Goals as goal

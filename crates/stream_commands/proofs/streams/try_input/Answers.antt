@@ -4,7 +4,7 @@ use Rattle.journal_play.specs.Playing.{IsTextOf}
 use Rattle.sync_words.specs.declared.outcome.Outcome.TheVariants as outcome
 use Rattle.stream_commands.specs.declared.input.TheConstants.{MAX_INPUT}
 use Rattle.stream_commands.proofs.PlayLemmas.{played_all, plays_nothing}
-use Rattle.sync_top.proofs.StateLemmas.{streams_on}
+use Rattle.stream_commands.proofs.AnswerLemmas.{streams_on}
 use Rattle.stream_commands.proofs.StreamLemmas.{play_streams}
 use Rattle.stream_commands.proofs.streams.try_input.Goals as goal
 
