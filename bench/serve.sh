@@ -2,13 +2,14 @@
 # A node that serves (`serve std`), against peers that hold what they have, as it does. Stores are made by oracle/store_file.py, and
 # what is answered is compared with what that module says, or with what the peer answers.
 # - `post` of a note of 200 bytes behind 20,000 and behind 200,000 messages, asked of one node, in turns with one INSERT by SQLite in
-#   one process, at synchronous=FULL with the journal that it takes by itself, into a table of as many rows: medians of POSTS (200)
-#   of each on the clock, on files on a disk.
+#   one process, at synchronous=FULL with the journal that it takes by itself, into a table of as many rows, and with the two writes
+#   and the two syncs of such a post alone: medians of POSTS (200) of each on the clock, on files on a disk.
 # - 100,000 `body` of 200 bytes behind 100,000 messages, in a drawn order, against `git cat-file --batch` of as many packed objects
 #   of these bytes, one at a time and 64 ahead, by the same client (bench/ask.c): the least of RUNS (5) runs in turns, by the
 #   processor's time of the two servers from the first request to the last answer, and by the clock.
 # - as many `inbox FROM 1` against these `body`, by the processor's time.
-# - the memory of the node at the end of these over that before the first; and what one request and its answer take.
+# - the memory of the node at the end of these over that before the first; what a long listing takes over its text, and inputs of
+#   100 MB over their bytes: one that no command reads, one that is read as it comes, and a mailbox file.
 # The last lines are `ratio NAME VALUE`.
 cd "$(dirname "$0")/.." || exit 1
 bsp=${BSP:-$PWD/crates/bsp/out/bsp}
@@ -23,7 +24,7 @@ PYTHONDONTWRITEBYTECODE=1 PYTHONPATH=bench:oracle python3 - "$bsp" "$folder" "${
 import os, random, sqlite3, subprocess, sys, time
 from statistics import median
 
-from store_file import GROUP, Note, file_bytes
+from store_file import GROUP, OPEN, Note, file_bytes, together
 
 bsp, folder, runs, posts = os.path.realpath(sys.argv[1]), sys.argv[2], int(sys.argv[3]), int(sys.argv[4])
 SIZE, MANY = 200, 100_000
@@ -102,11 +103,39 @@ class Table:
         os.remove(self.path)
 
 
+class Bare:
+    """A file that gets what a post writes, and nothing else."""
+
+    def __init__(self, count):
+        self.path, self.count = os.path.join(folder, f'bare {count}'), count
+        with open(self.path, 'wb') as file:
+            file.write(file_bytes(NOTES[:count]))
+        self.file, self.end = os.open(self.path, os.O_RDWR), os.path.getsize(self.path) - 1
+
+    def post(self, note):
+        frames = together(note.batches(self.count))
+        os.pwrite(self.file, frames, self.end + 1)
+        os.fdatasync(self.file)
+        os.pwrite(self.file, OPEN, self.end)
+        os.fdatasync(self.file)
+        self.end += len(frames)
+        self.count += 1
+
+    def close(self):
+        os.close(self.file)
+        with open(self.path, 'rb') as file:
+            expect(file.read() == file_bytes(NOTES[:self.count]), 'the bytes of the bare file')
+        os.remove(self.path)
+
+
 def measure_posts(count):
-    path, table = store(count), Table(count)
+    path, table, bare = store(count), Table(count), Bare(count)
     node = Node(path)
-    clocks = {'post': [], 'sqlite': []}
+    clocks = {'post': [], 'bare': [], 'sqlite': []}
     for note in NOTES[count:count + posts]:
+        start = time.perf_counter()
+        bare.post(note)
+        clocks['bare'].append(time.perf_counter() - start)
         start = time.perf_counter()
         told = node.ask('post', GROUP.hex(), note.time, body=note.body)
         clocks['post'].append(time.perf_counter() - start)
@@ -116,6 +145,7 @@ def measure_posts(count):
         clocks['sqlite'].append(time.perf_counter() - start)
     node.end()
     table.end(count + posts)
+    bare.close()
     # A post of a node is one group of frames, as that of the command.
     expect(os.path.getsize(os.path.join(path, 'bsp.0')) == len(file_bytes(NOTES[:count + posts])), 'the file after the posts')
     with open(os.path.join(path, 'bsp.0'), 'rb') as file:
@@ -124,7 +154,7 @@ def measure_posts(count):
     middle = {kind: median(of) for kind, of in clocks.items()}
     print(f'behind {count} messages: ' + ', '.join(
         f'{kind} {middle[kind] * 1e3:.2f} ms ({min(of) * 1e3:.2f} to {max(of) * 1e3:.2f})' for kind, of in clocks.items()), flush=True)
-    return f'ratio serve_post_{count}_sqlite {middle["post"] / middle["sqlite"]:.2f}'
+    return '\n'.join(f'ratio serve_post_{count}_{peer} {middle["post"] / middle[peer]:.2f}' for peer in ('sqlite', 'bare'))
 
 
 def make_git():
@@ -183,23 +213,25 @@ def measure_bodies():
 
 
 def measure_memory():
-    """What one request and its answer take beside the store: a long listing, and an input that a command keeps."""
-    path = store(MANY)
-    node = Node(path)
-    before = node.memory()
-    out = node.ask('inbox')[1]
-    listing = node.memory() - before
-    print(f'an inbox of {len(out) / 1e6:.1f} MB takes {listing / 1e6:.1f} MB', flush=True)
-    before, size = node.memory(), 100_000_000
-    expect(node.ask('show', body=bytes(size))[0] == 0, 'show with an input')
-    print(f'an input of {size / 1e6:.0f} MB that no command reads takes {(node.memory() - before) / 1e6:.1f} MB', flush=True)
-    unread = node.memory() - before
-    before = node.memory()
-    expect(node.ask('mailbox', 'in', 0, body=b'\0\4\0\1\0' * (size // 5 // 100))[0] == 0, 'mailbox in')
-    kept = node.memory() - before
-    print(f'a mailbox file of {size / 100 / 1e6:.0f} MB takes {kept / 1e6:.1f} MB', flush=True)
-    node.end()
-    return [f'ratio serve_listing_memory {listing / len(out):.2f}', f'ratio serve_unread_memory {unread / size:.3f}']
+    """What one request and its answer take beside the store, over their bytes."""
+    path, size, ratios = store(MANY), 100_000_000, []
+
+    def takes(name, length, *words, body=b'', wanted=0):
+        node = Node(path)
+        before = node.memory()
+        status, out, _ = node.ask(*words, body=body)
+        expect(status == wanted, f'{words}: status {status}')
+        more = node.memory() - before
+        length = length or len(out)
+        node.end()
+        print(f'{" ".join(map(str, words))} of {length / 1e6:.1f} MB takes {more / 1e6:.1f} MB', flush=True)
+        ratios.append(f'ratio serve_memory_{name} {more / length:.2f}')
+    takes('listing', 0, 'inbox')
+    takes('unread', size, 'status', body=bytes(size))
+    # each begins with a record that is none, so that reading it takes no time
+    takes('records', size, 'records', body=bytes(size), wanted=9)
+    takes('mailbox', size, 'mailbox', 'in', 0, body=bytes(size), wanted=9)
+    return ratios
 
 
 ratios = measure_bodies()
