@@ -11,7 +11,7 @@ import hashlib
 import sys
 
 from digests import group_id, message_id
-from journal import SHORT, WHOLE, entries, entry_of, format_of, frames, gathered, groups_of, is_spelled, number, respelled
+from journal import SHORT, WHOLE, Group, entries, entry_of, format_of, frames, gathered, groups_of, is_spelled, number, respelled
 from store_file import CLOSED, HEADER, OPEN, framed, header
 
 MAX64 = 2**64 - 1
@@ -503,6 +503,8 @@ class Store:
         self.journal = Journal(clients)
         # both files, and the number of the one that has the journal
         self.files, self.at = [HEADER + CLOSED, b''], 0
+        # what waits to be added, and the payloads of each group that was
+        self.waiting, self.groups = Group(), []
 
     def read(self, content):
         """The store of a file of either format, and an empty one."""
@@ -559,21 +561,42 @@ class Store:
     def spelled(self, batch):
         return b''.join(entry_bytes(e, self.journal.name) for e in batch)
 
-    def write(self, batch):
-        payload = self.spelled(batch)
-        self.files[self.at] = self.files[self.at][:-1] + OPEN + len(payload).to_bytes(4, 'big') + payload + CLOSED
+    # ---- batches are added in groups
+    def wait(self, batch):
+        """A batch joins those that wait; where it finds no room behind them they are added first."""
+        if not self.waiting.finds_room():
+            self.flush()
+        self.waiting.add(self.spelled(batch))
 
-    def commit(self, batch):
-        self.write(batch)
+    def flush(self):
+        """Those that wait are added, none of them or all at each moment."""
+        group, self.waiting = self.waiting.payloads, Group()
+        if group:
+            self.append(group)
+            self.groups.append(group)
+
+    def append(self, group):
+        self.files[self.at] = self.files[self.at][:-1] + framed(b'', group)
+
+    def gather(self, batch):
+        self.wait(batch)
         for entry in batch:
             self.journal.apply(entry)
 
-    def settle(self):
+    def gather_settling(self):
         for batch in self.journal.settling():
-            self.write(batch)
+            self.wait(batch)
+
+    def commit(self, batch):
+        self.gather(batch)
+        self.flush()
+
+    def settle(self):
+        self.gather_settling()
+        self.flush()
 
     def extend(self, batch):
-        self.commit(batch)
+        self.gather(batch)
         self.settle()
 
 
@@ -643,11 +666,17 @@ class Run:
                     break
             self.links.append(link)
 
+    def pause(self):
+        """What was gathered is added at once."""
+        self.store.flush()
+
     def take(self, link, record, place):
         j = self.store.journal
         s = link.session
-        self.store.commit([('take', s, j.takes.get(s, 0))] + j.taken(s, record))
-        self.store.settle()
+        self.store.gather([('take', s, j.takes.get(s, 0))] + j.taken(s, record))
+        self.pause()
+        self.store.gather_settling()
+        self.pause()
         if record[0] == 'priority' and link.nonce is None:
             link.nonce = record[1]
         if record[0] == 'versions' and 0 not in record[1]:
@@ -690,26 +719,25 @@ class Run:
 
     def put(self, i, link):
         now, made = self.host.now(), 0
-        while made < MAX_OUTS and link.stands in ('going', 'clean') and self.put_one(i, link, now):
+        while made < MAX_OUTS and link.stands in ('going', 'clean') and (bytes_ := self.put_one(link, now)):
+            self.pause()
+            if not self.send(i, bytes_):
+                link.stands = 'failed'
             made += 1
         return made
 
-    def put_one(self, i, link, now):
-        """Whether something was due."""
+    def put_one(self, link, now):
+        """The record of what is due, which is gathered; None where nothing is."""
         j = self.store.journal
         due = j.due(link.session, now)
         if not due:
-            return False
+            return None
         what, ids = due
+        self.store.gather([('out', link.session, now, what, ids)])
         if what == 'send':
             h = j.find(ids[0])
-            bytes_ = message_record(h.group, h.timestamp, h.body)
-        else:
-            bytes_ = record_bytes({'acks': ACK, 'requests': REQUEST, 'offers': OFFER}[what], b''.join(ids))
-        self.store.commit([('out', link.session, now, what, ids)])
-        if not self.send(i, bytes_):
-            link.stands = 'failed'
-        return True
+            return message_record(h.group, h.timestamp, h.body)
+        return record_bytes({'acks': ACK, 'requests': REQUEST, 'offers': OFFER}[what], b''.join(ids))
 
     def close_redundant(self):
         for contact in range(256):
@@ -756,6 +784,44 @@ class Run:
         bad = next((line for line in lines if line not in ('clean', 'quiet', 'redundant')), None)
         status = 0 if bad is None else 7 if bad == 'failed' else 11 if bad == 'unfinished' else 9
         return status, ''.join('link %d: %s\n' % (i, line) for i, line in enumerate(lines))
+
+
+# ---- mailbox files
+
+class Mail(Run):
+    """A mailbox file from or for a contact: its session and its records, or its outputs, are added in groups."""
+
+    def __init__(self, store, contact):
+        super().__init__(store, Host(), 0, 0, [])
+        self.contact = contact
+
+    def pause(self):
+        """Nothing is added before the end."""
+
+    def begin(self, latency):
+        session = self.store.journal.begun
+        self.store.gather([('session', session, self.contact, BATCH, latency, None)])
+        return Link(session, None)
+
+    def read(self, content):
+        """The status, the line on the error output, and the text."""
+        link = self.begin(1)
+        link.rest = content
+        self.items(link)
+        self.store.flush()
+        if link.stands == 'going':
+            link.stands = 'ended inside a record at %d' % link.place if link.rest else 'clean'
+        taken = self.store.journal.takes.get(link.session, 0)
+        status, err = (0, '') if link.stands == 'clean' else (9, link.stands + '\n')
+        return status, err, b'taken %d\n' % taken
+
+    def write(self, now, latency, count):
+        """The same; the text is the file."""
+        link, records = self.begin(latency), [record_bytes(VERSIONS, b'\0')]
+        while len(records) <= count and (bytes_ := self.put_one(link, now)):
+            records.append(bytes_)
+        self.store.flush()
+        return 0, '', b''.join(records)
 
 
 # ---- a node that is told each call
@@ -914,38 +980,14 @@ class Cases:
             status, err, text = 10, 'full\n', b''
             if self.store.migrate():
                 self.store.settle()
-                run = Run(self.store, self.host, 1, 1, [])
-                status, err, text = self.read_mail(run, words) if words[1] == 'in' else self.write_mail(run, words)
+                mail = Mail(self.store, int(words[2]))
+                status, err, text = mail.read(self.input) if words[1] == 'in' else mail.write(self.host.now(), *map(int, words[3:]))
         print('status %d' % status, file=self.out)
         self.out.write(err)
         print('out %s' % short(text), file=self.out)
         for name, content in zip(('file', 'other'), self.store.files):
             print(name, short(content), file=self.out)
         self.host, self.input, self.twin = Host(), b'', None
-
-    def begin_mail(self, words, latency):
-        session = self.store.journal.begun
-        self.store.commit([('session', session, int(words[2]), 'batch', latency, None)])
-        return session
-
-    def read_mail(self, run, words):
-        link = Link(self.begin_mail(words, 1), None)
-        link.rest = self.input
-        run.items(link)
-        if link.stands == 'going':
-            link.stands = 'ended inside a record at %d' % link.place if link.rest else 'clean'
-        taken = self.store.journal.takes.get(link.session, 0)
-        status, err = (0, '') if link.stands == 'clean' else (9, link.stands + '\n')
-        return status, err, b'taken %d\n' % taken
-
-    def write_mail(self, run, words):
-        now = self.host.now()
-        link = Link(self.begin_mail(words, int(words[3])), None)
-        self.host.sent = [record_bytes(4, b'\0')]
-        made = 0
-        while made < int(words[4]) and run.put_one(0, link, now):
-            made += 1
-        return 0, '', self.host.sent[0]
 
     def do(self, words):
         self.do_on(self.store, words)
@@ -1006,10 +1048,9 @@ class Cases:
 
     def stops_of_mailbox(self, words):
         """Only a file that is written acknowledges. The store stays as it was."""
-        before = copy.deepcopy(self.store)
-        run = Run(self.store, self.host, 1, 1, [])
-        self.tell_stops([self.write_mail(run, words)[2]] if words[1] == 'out' else [])
-        self.store, self.host, self.input = before, Host(), b''
+        mail = Mail(copy.deepcopy(self.store), int(words[2]))
+        self.tell_stops([mail.write(self.host.now(), *map(int, words[3:]))[2]] if words[1] == 'out' else [])
+        self.host, self.input = Host(), b''
 
     def tell_stops(self, sent):
         acked = any(kind == 0 for bytes_ in sent for kind in kinds_of(bytes_))
