@@ -38,7 +38,7 @@ from help_texts import texts_of
 from journal import MOST_BATCHES, SHORT, WHOLE, frames, gathered, groups_of, respelled
 from migration import migrated
 from old_stores import NOTES, SCENES as OLD_SCENES, THREADS, adds_contact, bare, facts_of, heard, held, looks_at, show_text
-from run_model import ACK, BATCH, OFFER, REQUEST, SHARED, VERSIONS, VISIBLE, Journal, Mail, Store, calls_of_clear, message_record, record_bytes
+from run_model import ACK, BATCH, OFFER, REQUEST, SHARED, VERSIONS, VISIBLE, Journal, Mail, Store, calls_of_clear, expanded, message_record, record_bytes
 from sharing import ALL_CLIENTS, NOTE, SCENES as SHARING_SCENES, SEEDS, THREAD, Person, agrees_at_length, agrees_at_random
 from store_file import CLOSED, OPEN, framed, header
 
@@ -66,10 +66,6 @@ def told_output(data):
         except UnicodeDecodeError:
             pass
     return ['bytes ' + told_bytes(data)] if data else []
-
-
-def expanded(text):
-    return re.sub(r'\{([^*]*)\*(\d+)\}', lambda of: of[1] * int(of[2]), text)
 
 
 def unhex(digits):

@@ -8,6 +8,7 @@ print. What a case is stands in crates/test_runs/src/main.rt."""
 import collections
 import copy
 import hashlib
+import re
 import sys
 
 from digests import group_id, message_id
@@ -495,9 +496,15 @@ def calls_of_clear(content):
     return 2 + 2 * (content[:1] in (b'', OPEN)) + 2 * (len(content) > 1)
 
 
+class DiskFault(Exception):
+    """The call of the disk that was to fail was made."""
+
+
 class Store:
     # the file of format 2 that a journal of format 1 is to be written anew into
     anew = None
+    # how many calls of the disk were made, and which of them is to fail
+    calls, failing = 0, None
 
     def __init__(self, clients=CLIENTS):
         self.journal = Journal(clients)
@@ -575,8 +582,27 @@ class Store:
             self.append(group)
             self.groups.append(group)
 
+    def call(self):
+        self.calls += 1
+        if self.failing == self.calls - 1:
+            raise DiskFault
+
     def append(self, group):
-        self.files[self.at] = self.files[self.at][:-1] + framed(b'', group)
+        """Four calls of the disk: behind the closed gate all is written, and synced; then the gate is, and synced."""
+        stood, added = self.files[self.at], framed(b'', group)
+        self.call()
+        self.files[self.at] = stood + added[1:]
+        self.call()
+        self.call()
+        self.files[self.at] = stood[:-1] + added
+        self.call()
+
+    def load(self, failing):
+        """A load of a journal of format 2, of which no call fails: both files are synced, two headers and the length are read, and
+        each frame by two calls, and the closed gate."""
+        assert not self.anew
+        self.calls, self.failing = 2 + 2 + 1 + 2 * len(list(frames(self.files[self.at]))) + 1, failing
+        assert failing is None or failing >= self.calls
 
     def gather(self, batch):
         self.wait(batch)
@@ -666,17 +692,11 @@ class Run:
                     break
             self.links.append(link)
 
-    def pause(self):
-        """What was gathered is added at once."""
-        self.store.flush()
-
     def take(self, link, record, place):
         j = self.store.journal
         s = link.session
         self.store.gather([('take', s, j.takes.get(s, 0))] + j.taken(s, record))
-        self.pause()
         self.store.gather_settling()
-        self.pause()
         if record[0] == 'priority' and link.nonce is None:
             link.nonce = record[1]
         if record[0] == 'versions' and 0 not in record[1]:
@@ -715,16 +735,18 @@ class Run:
                 script.insert(0, ('got', answer[1][PIECE:]))
             link.rest += answer[1][:PIECE]
             self.items(link)
+            self.store.flush()
         return False
 
     def put(self, i, link):
-        now, made = self.host.now(), 0
-        while made < MAX_OUTS and link.stands in ('going', 'clean') and (bytes_ := self.put_one(link, now)):
-            self.pause()
-            if not self.send(i, bytes_):
-                link.stands = 'failed'
-            made += 1
-        return made
+        """How many outputs were due. They are added together, and then sent in one call."""
+        now, records = self.host.now(), []
+        while len(records) < MAX_OUTS and link.stands in ('going', 'clean') and (bytes_ := self.put_one(link, now)):
+            records.append(bytes_)
+        self.store.flush()
+        if records and not self.send(i, b''.join(records)):
+            link.stands = 'failed'
+        return len(records)
 
     def put_one(self, link, now):
         """The record of what is due, which is gathered; None where nothing is."""
@@ -789,14 +811,11 @@ class Run:
 # ---- mailbox files
 
 class Mail(Run):
-    """A mailbox file from or for a contact: its session and its records, or its outputs, are added in groups."""
+    """A mailbox file from or for a contact: its session and all its records, or all its outputs, are added together."""
 
     def __init__(self, store, contact):
         super().__init__(store, Host(), 0, 0, [])
         self.contact = contact
-
-    def pause(self):
-        """Nothing is added before the end."""
 
     def begin(self, latency):
         session = self.store.journal.begun
@@ -878,8 +897,9 @@ class Node(Run):
         return self.hear(number, self.links[number])
 
     def hears(self, number, record):
-        """Takes a record that is whole."""
+        """Takes a record that is whole, and came by itself."""
         self.take(self.links[number], read_one(record)[0], 0)
+        self.store.flush()
 
     def takes_on(self, number):
         return self.journal.takes.get(self.links[number].session, 0)
@@ -911,6 +931,8 @@ class Cases:
 
     def begin(self):
         self.store, self.host, self.input = Store(), Host(), b''
+        # the call of the disk that is to fail in the next run
+        self.failing = None
         # the store as it would be had it not been compacted
         self.twin = None
 
@@ -950,6 +972,8 @@ class Cases:
             self.host.nonces.append(bytes.fromhex(words[1]))
         elif kind == 'faildial':
             self.host.failing_dials.add(int(words[1]))
+        elif kind == 'faildisk':
+            self.failing = int(words[1])
         elif kind == 'failsend':
             self.host.failing_sends.add(int(words[1]))
         elif kind == 'sync':
@@ -1014,7 +1038,15 @@ class Cases:
         if self.twin:
             self.compare(words, links)
         run = Run(self.store, self.host, int(words[1]), int(words[2]), links)
-        status, err = run.play()
+        if self.failing is not None:
+            self.store.load(self.failing)
+        try:
+            status, err = run.play()
+        except DiskFault:
+            status, err = 6, 'disk fault\n'
+            self.store = Store()
+            self.store.read(run.store.files[0])
+        self.store.failing = self.failing = None
         print('status %d' % status, file=self.out)
         self.out.write(err)
         for i, sent in enumerate(self.host.sent):
@@ -1082,12 +1114,17 @@ def kinds_of(bytes_):
         bytes_ = bytes_[4 + int.from_bytes(bytes_[2:4], 'big'):]
 
 
+def expanded(text):
+    """A line in which `{TEXT*N}` stands for N times TEXT."""
+    return re.sub(r'\{([^*]*)\*(\d+)\}', lambda of: of[1] * int(of[2]), text)
+
+
 def main():
     cases = Cases(sys.stdout)
     for line in open(sys.argv[1], encoding='utf-8'):
         line = line.rstrip('\n')
         if line and not line.startswith('#'):
-            cases.line(line)
+            cases.line(expanded(line))
 
 
 if __name__ == '__main__':
