@@ -1,9 +1,9 @@
 #!/usr/bin/env bash
 # Mailbox files of COUNT (20,000) notes of 200 bytes: `mailbox in` of a file that has them, into a store that has none, and `mailbox
-# out` of a store that has them. Each is beside a bare program that makes the same writes and syncs (bench/bare_append.c), medians of
-# RUNS (3) runs in turns on the clock, in a folder of its own on a disk. The files, and the bytes that are written, are compared with
-# what the rules say (oracle/store_file.py). The greatest memory of `mailbox in` is beside that of a load of the store that it
-# leaves, its input and one record. The last lines are `ratio NAME VALUE`.
+# out` of a store that has them. Each is beside a bare program that makes the same writes and syncs (bench/bare_append.c), and the
+# first beside `git fetch` of as many commits, medians of RUNS (3) runs in turns on the clock, in a folder of its own on a disk. The
+# files, and the bytes that are written, are compared with what the rules say (oracle/store_file.py). The greatest memory of `mailbox
+# in` is beside that of a load of the store that it leaves, its input and one record. The last lines are `ratio NAME VALUE`.
 cd "$(dirname "$0")/.." || exit 1
 bsp=${BSP:-$PWD/crates/bsp/out/bsp}
 [ -x "$bsp" ] || .ci/built bsp || exit 1
@@ -17,6 +17,7 @@ PYTHONDONTWRITEBYTECODE=1 PYTHONPATH=bench:oracle python3 - "$bsp" "$folder" "${
 import os, struct, subprocess, sys, tempfile, time
 from statistics import median
 
+from commits import fetch, make_commits
 from journal import SEND, joined
 from store_file import GROUP, HEADER, Note, first_batches, framed, steps, together
 
@@ -119,7 +120,10 @@ EMPTY = framed(HEADER, first_batches())
 FULL = framed(HEADER, [*first_batches(), *(it for number, note in enumerate(notes) for it in note.batches(number))])
 sent = VERSIONS + b''.join(map(record, notes))
 
-kinds = {'in': read, 'in_bare': lambda: bare(EMPTY, takes()), 'out': write, 'out_bare': lambda: bare(FULL, sends(1))}
+commits = make_commits(folder, notes)
+
+kinds = {'in': read, 'in_bare': lambda: bare(EMPTY, takes()), 'git': lambda: fetch(folder, commits),
+         'out': write, 'out_bare': lambda: bare(FULL, sends(1))}
 clocks = {kind: [] for kind in kinds}
 for _ in range(runs):
     for kind, call in kinds.items():
@@ -131,5 +135,6 @@ load, most = peak(whole, bsp, 'body', UNKNOWN), peak(EMPTY, bsp, 'mailbox', 'in'
 print(f'greatest memory: in {most / 1e6:.1f} MB, load {load / 1e6:.1f} MB, input {len(sent) / 1e6:.1f} MB')
 for kind in ('in', 'out'):
     print(f'ratio mailbox_{kind} {middle[kind] / middle[kind + "_bare"]:.2f}')
+print(f'ratio mailbox_in_git {middle["in"] / middle["git"]:.2f}')
 print(f'ratio mailbox_in_memory {most / (load + len(sent) + RECORD):.2f}')
 PY
