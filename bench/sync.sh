@@ -7,6 +7,8 @@
 # - `git fetch` of as many commits, each of a file with as many bytes, into a repository that has none;
 # - the exchange and the fetch once more where all syncs are left out, by a library that is loaded before (bench/syncs.c), which also
 #   counts the syncs of each side.
+# And a peer that was written here sends notes one by one, each once the one before it is acknowledged: how long that takes is a median
+# of ONES (300), over the bare program's four syncs and two writes of frames for each.
 # What the store that hears has at the end is compared with what oracle/store_file.py says, and the file of the bare program with
 # its file. Turns and messages a turn are read from the journals (oracle/journal.py). Where `strace` is there, a tenth of the notes
 # go over once more under it, which tells how long each side waits for the other and for its disk.
@@ -15,7 +17,7 @@
 # enough, but an OFFER names 1,536 ids and a peer wants 1,000 at most: what it let fall is offered again once its time is over,
 # and the time doubles, so the run waits for that, and STILL (100) still turns may be too few.
 # The last lines are `ratio NAME VALUE`, of the least times: over the bare program, over git, over git with the syncs left out on both
-# sides, and messages for each sync of either side.
+# sides, and messages for each sync of either side; and of one note by itself.
 cd "$(dirname "$0")/.." || exit 1
 bsp=${BSP:-$PWD/crates/bsp/out/bsp}
 [ -x "$bsp" ] || .ci/built bsp || exit 1
@@ -26,15 +28,17 @@ tmpfs | ramfs) echo "$folder is in memory: set TMPDIR to a folder on a disk" && 
 esac
 cc -O2 -o "$folder/bare_append" bench/bare_append.c && cc -O2 -shared -fPIC -o "$folder/syncs.so" bench/syncs.c || exit 1
 export MODE=${MODE:-batch} LATENCY=${LATENCY:-600000} STILL=${STILL:-100} PYTHONDONTWRITEBYTECODE=1 PYTHONPATH=bench:oracle
-python3 - "$bsp" "$folder" "${RUNS:-1}" "${PART:-1}" <<'PY'
-import os, re, shutil, subprocess, sys, time
+python3 - "$bsp" "$folder" "${RUNS:-1}" "${PART:-1}" "${ONES:-300}" <<'PY'
+import os, re, shutil, socket, subprocess, sys, time
 from collections import namedtuple
+from statistics import median
 
 from commits import fetch, make_commits
 from journal import ACKS, OFFERS, SEND, SHORT, entries, frames
-from store_file import Note, file_bytes, together
+from run_model import ACK, VERSIONS, message_record, record_bytes
+from store_file import GROUP, Note, file_bytes, together
 
-bsp, folder, runs, part = sys.argv[1], sys.argv[2], int(sys.argv[3]), float(sys.argv[4])
+bsp, folder, runs, part, ones = sys.argv[1], sys.argv[2], int(sys.argv[3]), float(sys.argv[4]), int(sys.argv[5])
 mode, latency, still = os.environ['MODE'], os.environ['LATENCY'], os.environ['STILL']
 CASES = (('small', 20_000, 200), ('large', 2_000, 32_000))
 MOST, HEAD = 1_800, 44  # seconds of a run; bytes of a MESSAGE record before its body
@@ -196,5 +200,42 @@ def measure(name, count, size):
             f'ratio sync_{name}_hears {len(notes) / it.hears_syncs:.2f}', f'ratio sync_{name}_says {len(notes) / it.says_syncs:.2f}']
 
 
-print('\n'.join(line for case in CASES for line in measure(*case)))
+def one_by_one():
+    """Seconds that a note takes to be acknowledged which comes by itself, and those of as many writes and syncs."""
+    to = put('to', START)
+    hears = begin(to, 1_000_000, 'unixlisten:../meet')
+    while not os.path.exists(os.path.join(folder, 'meet')):
+        expect(hears.poll() is None, 'nobody waits')
+    told = []
+    with socket.socket(socket.AF_UNIX) as link:
+        link.connect(os.path.join(folder, 'meet'))
+        with link.makefile('rb') as heard:
+            link.sendall(record_bytes(VERSIONS, b'\0'))
+            expect(heard.read(5) == record_bytes(VERSIONS, b'\0'), 'the greeting')
+            for note in map(lambda at: Note(at, 200), range(ones)):
+                start = time.perf_counter()
+                link.sendall(message_record(GROUP, note.time, note.body))
+                expect(heard.read(36) == record_bytes(ACK, note.id), 'an acknowledgement')
+                told.append(time.perf_counter() - start)
+    end(hears, ('link 0: clean\n',))
+    whole = content_of(to)
+    payloads = [payload for at, payload in frames(whole) if at >= len(START) - 1]
+    # a session and a VERSIONS; then of each note a batch with its settling, and an output
+    groups = [payloads[:1], payloads[1:2]] + [part_ for at in range(2, len(payloads), 3) for part_ in (payloads[at:at + 2], payloads[at + 2:at + 3])]
+    here = put('bare', START)
+    start = time.perf_counter()
+    subprocess.run((os.path.join(folder, 'bare_append'), 'bsp.0', 'bsp.1'), cwd=here, input=b''.join(map(together, groups)), check=True)
+    plain = (time.perf_counter() - start) / ones
+    expect(content_of(here) == whole, 'the file of bare_append')
+    return median(told), plain
+
+
+def measure_one():
+    told, plain = map(min, zip(*(one_by_one() for _ in range(max(2, runs)))))
+    print(f'one note by itself: acknowledged in {told * 1e3:.2f} ms, as many writes and syncs {plain * 1e3:.2f} ms', flush=True)
+    return [f'ratio sync_one_bare {told / plain:.2f}']
+
+
+ratios = [line for case in CASES for line in measure(*case)]
+print('\n'.join(ratios + measure_one()))
 PY
