@@ -75,21 +75,22 @@ def begin(here, quiet, spec, before=(), env=()):
 
 
 def end(node, lines):
-    """Waits until a node ends by itself, and says how much of the processor and of memory it took."""
+    """Waits until a node ends by itself, and says how much of the processor it took."""
     text = node.stderr.read().decode()
     _, status, usage = os.wait4(node.pid, 0)
     node.returncode = os.waitstatus_to_exitcode(status)
     expect(node.returncode == 0 and text in lines, f'status {node.returncode}, {text!r}')
-    return usage.ru_utime + usage.ru_stime, usage.ru_maxrss / 1024
+    return usage.ru_utime + usage.ru_stime
 
 
-# the seconds on the clock; seconds of the processor, memory in MiB, syncs and file of each side; when it began
-Exchange = namedtuple('Exchange', 'clock heard said hears_memory says_memory hears_syncs says_syncs hears says start')
+# the seconds on the clock; seconds of the processor, syncs, memory in KiB and file of each side; when it began
+Exchange = namedtuple('Exchange', 'clock heard said hears_syncs hears_memory says_syncs says_memory hears says start')
 
 
-def syncs_of(side):
+def counted(side):
+    """The syncs of a side, and its memory."""
     with open(os.path.join(folder, f'syncs.{side}')) as told:
-        return int(told.read())
+        return map(int, told.read().split())
 
 
 def exchange(notes, traces=('', ''), env=()):
@@ -108,13 +109,13 @@ def exchange(notes, traces=('', ''), env=()):
         time.sleep(0.001)
     start = time.time()
     says = begin(source, still, 'unix:../meet', before[1], envs[1])
-    (said, says_memory), (heard, hears_memory) = end(says, ('link 0: quiet\n',)), end(hears, ('link 0: clean\n',))
+    said, heard = end(says, ('link 0: quiet\n',)), end(hears, ('link 0: clean\n',))
     clock = os.path.getmtime(os.path.join(to, 'bsp.0')) - start
     inbox = subprocess.run((bsp, 'inbox'), cwd=to, capture_output=True, check=True).stdout.decode().splitlines()
     want = [note.inbox_line().strip().replace(' self ', ' 0 ') for note in notes]
     expect(sorted(inbox) == sorted(want), 'the notes that came')
-    syncs = (0, 0) if any(traces) else map(syncs_of, ('hears', 'says'))
-    return Exchange(clock, heard, said, hears_memory, says_memory, *syncs, content_of(to), content_of(source), start)
+    told = (0, 0, 0, 0) if any(traces) else (*counted('hears'), *counted('says'))
+    return Exchange(clock, heard, said, *told, content_of(to), content_of(source), start)
 
 
 def bare(told):
@@ -188,8 +189,8 @@ def measure(name, count, size):
     plain, fetched, unsynced_fetched = min(plain), min(fetched), min(unsynced_fetched)
     size_of_all = sum(HEAD + len(note.body) for note in notes)
     print(f'{name}: {len(notes)} notes of {size} bytes in {it.clock:.2f} s, {size_of_all / it.clock / 1e6:.2f} MB a second; '
-          f'of the processor {it.heard:.2f} s to hear, {it.said:.2f} s to say; of memory {it.hears_memory:.1f} and '
-          f'{it.says_memory:.1f} MiB; {it.hears_syncs} syncs to hear, {it.says_syncs} to say', flush=True)
+          f'of the processor {it.heard:.2f} s to hear, {it.said:.2f} s to say; of memory {it.hears_memory / 1024:.1f} and '
+          f'{it.says_memory / 1024:.1f} MiB; {it.hears_syncs} syncs to hear, {it.says_syncs} to say', flush=True)
     count_turns(name, notes, it.hears, it.says)
     print(f'{name}: as many writes and syncs {plain:.2f} s, git fetch {fetched:.2f} s; with no syncs {least.clock:.2f} s, '
           f'git fetch {unsynced_fetched:.2f} s', flush=True)
