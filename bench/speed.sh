@@ -38,6 +38,17 @@ ROWS = [
         '{load_of_post_1:.2f}, {load_of_post_20:.2f}, {load_of_post_1000:.2f}, {load_of_post_20000:.2f}',
         f'{BARE}; these over SQLite {{post_1_sqlite / post_1_bare:.1f}}, {{post_20_sqlite / post_20_bare:.1f}}, {{post_1000_sqlite / post_1000_bare:.1f}}, '
         '{post_20000_sqlite / post_20000_bare:.1f}'),
+    Row('serve', 'serve.sh', 'of a node that serves: a `post` of 200 bytes behind 20,000 and behind 200,000 messages over one INSERT by SQLite '
+        'in one process at synchronous=FULL into as many rows; over the two writes and syncs of such a post alone; 100,000 `body` behind 100,000 '
+        'messages over `git cat-file --batch` of as many packed objects of these bytes, one at a time and 64 ahead, of the processor, and on the '
+        'clock with the same client; as many `inbox FROM 1` over these; memory behind these over that before; of a long listing over its text; of '
+        'an input that nothing reads, of one of `records` and of a mailbox file over their bytes',
+        '{serve_post_20000_sqlite:.2f}, {serve_post_200000_sqlite:.2f}; {serve_post_20000_bare:.2f}, {serve_post_200000_bare:.2f}; '
+        '{serve_body_git_1_processor:.2f}, {serve_body_git_64_processor:.2f}, {serve_body_git_1_clock:.2f}, {serve_body_git_64_clock:.2f}; '
+        '{serve_inbox_body_1:.2f}, {serve_inbox_body_64:.2f}; {serve_memory:.2f}; {serve_memory_listing:.2f}; {serve_memory_unread:.2f}, '
+        '{serve_memory_records:.2f}, {serve_memory_mailbox:.2f}',
+        'the bare writes over SQLite, {serve_post_20000_sqlite / serve_post_20000_bare:.2f}, {serve_post_200000_sqlite / serve_post_200000_bare:.2f}; 1; '
+        'none; none; 1: the load; 1: the text; 0, 1, 1'),
     Row('node', 'node.sh', '20,000 notes of 200 bytes heard by `sync` on its standard input, and as many sent on its output, in files in '
         'memory, of the processor, over a bare program with the same writes and syncs and a load of what is left', '{hear:.2f}, {send:.2f}',
         '1: the writes of each batch, and the digest and the state of each message'),

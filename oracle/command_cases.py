@@ -29,6 +29,7 @@ A line of commands.txt is one of the driver's (crates/test_play says which), or 
 import hashlib
 import itertools
 import os
+import random
 import re
 import sys
 
@@ -37,9 +38,13 @@ from digests import group_id, message_id
 from help_texts import texts_of
 from journal import MOST_BATCHES, SHORT, WHOLE, frames, gathered, groups_of, respelled
 from migration import migrated
-from old_stores import NOTES, SCENES as OLD_SCENES, THREADS, adds_contact, bare, facts_of, heard, held, looks_at, show_text
-from run_model import ACK, BATCH, OFFER, REQUEST, SHARED, VERSIONS, VISIBLE, Journal, Mail, Store, calls_of_clear, expanded, message_record, record_bytes
+from old_stores import NOTES, SCENES as OLD_SCENES, THREADS, adds_contact, bare, facts_of, fresh, heard, held, looks_at, show_text, spoken
+from run_model import ACK, BATCH, OFFER, SHARED, VERSIONS, VISIBLE, Journal, Mail, Store, calls_of_clear, crossed, expanded, message_record
+from run_model import record_bytes
+from served import GREETING, NO_REQUEST, begun as begun_node, drawn as drawn_life, fronts_of, looked_at, spelled as spelled_request
+from served import states_at, stopped as stopped_life, text_of, texts_at
 from sharing import ALL_CLIENTS, NOTE, SCENES as SHARING_SCENES, SEEDS, THREAD, Person, agrees_at_length, agrees_at_random
+from standing import stands
 from store_file import CLOSED, OPEN, framed, header
 
 FOLDER = os.path.dirname(os.path.abspath(__file__))
@@ -52,6 +57,10 @@ APPEND = 4
 PROGRAM = texts_of('bsp')['version'].split()[1]
 # the most bytes of an output that go into one call, and the parts in which an input comes
 PIECE = 7
+# what a node does otherwise than the command by itself
+ALONE = ('sync', 'serve', 'quit')
+# how many bytes the words of a request have at most, a zero byte behind each
+MOST_WORDS = 32_768
 
 
 def told_bytes(data):
@@ -100,6 +109,9 @@ class Text:
 
     def __init__(self):
         self.cases, self.answers, self.files, self.counts, self.part = [], [], [b'', b''], {}, ''
+        # how many commands of the case are asked of a node too, the clients of every group where there are such, and what was found
+        # of files that were met
+        self.asked, self.crossed, self.known = 0, None, {}
 
     def count(self, number=1):
         self.counts[self.part] = self.counts.get(self.part, 0) + number
@@ -108,9 +120,36 @@ class Text:
         self.cases += lines
 
     def case(self, name):
+        self.end()
+        self.crossed = None
         self.say('case ' + name)
         self.answers.append('case ' + name)
         self.part, self.files = name, [header(SHORT, 1) + CLOSED, b'']
+
+    def end(self):
+        """Of the case it is told how many commands were asked of a node too, each of which answered as the command by itself."""
+        if self.asked:
+            self.say('asked')
+            self.answers.append(f'asked {self.asked}')
+        self.asked = 0
+
+    def is_held(self):
+        """Whether a node holds the files as they are: they stand for a journal of format 2 that is settled."""
+        key = tuple(self.files), bool(self.crossed)
+        if key not in self.known:
+            found = stands(self.files)
+            self.known[key] = found[0] == 'journal' and found[1] == SHORT and self.is_settled(found[2])
+        return self.known[key]
+
+    def is_settled(self, payloads):
+        store = Store()
+        try:
+            store.read(framed(header(SHORT, 1), payloads))
+        except (ValueError, IndexError):
+            # a payload is no list of entries
+            return False
+        store.journal.clients = self.crossed or ALL_CLIENTS
+        return not store.journal.next_step()
 
     def put_files(self, first, second=b''):
         self.say(f'files {first.hex() or "-"} {second.hex() or "-"}')
@@ -124,6 +163,10 @@ class Text:
         """A command of one of the kinds `try`, `run`, `loaded` and `words`."""
         self.say(*prepared, f'{kind} {typed(words)}')
         self.answers += [f'> {expanded(words)}', *outcome.lines(self.files)]
+        self.crossed = next((crossed(*map(bytes.fromhex, it.split()[1:])) for it in prepared if it.startswith('crossed ')), self.crossed)
+        if kind in ('run', 'try') and expanded(words).split(' ')[0] not in ALONE and outcome.status != DAMAGED and not any(
+                it.startswith('fail') for it in prepared) and len(expanded(words).encode()) < MOST_WORDS and self.is_held():
+            self.asked += 1
         if kind == 'run':
             for file, data in outcome.after.items():
                 self.files[file] = data
@@ -739,6 +782,153 @@ def play_status(text, names):
         text.tell('try', 'status', Outcome(status_text(spelled, 3, payloads)))
 
 
+# ---- a node that serves
+
+def prepare(text, answered):
+    """The lines of some requests."""
+    for it in answered:
+        words = typed(' '.join(it.words))
+        if isinstance(it.given, str):
+            text.say(f'{it.given} {words}')
+        else:
+            text.say(*(['input ' + it.given.hex()] if it.given else []), 'ask ' + words)
+
+
+def serves(text, outcome, *prepared):
+    text.say(*prepared, 'serve')
+    text.answers += ['> serve std', *outcome.lines(text.files)]
+    text.count()
+
+
+def lives(seeds, life=drawn_life):
+    return [(seed, life(seed)) for seed in seeds]
+
+
+def begin_life(text, name, served):
+    text.case('a node that serves: ' + name)
+    text.journal(SHORT, 1, served.begun.payloads)
+
+
+def answered_of(served, number):
+    """A node that was asked the first so many requests: its answers, and its files."""
+    again = type(served)(served.begun.payloads)
+    for it in served.answered[:number]:
+        again.ask(it.words, it.given)
+    return again.answered, dict(enumerate(again.store.files))
+
+
+def play_served(text):
+    for seed, served in lives(range(60)):
+        begin_life(text, f'drawn {seed}', served)
+        prepare(text, served.answered)
+        serves(text, Outcome(text_of(served.answered), after=enumerate(served.store.files)))
+    for seed, served in lives(range(100, 130), stopped_life):
+        begin_life(text, f'stopped {seed}', served)
+        given = b''.join(spelled_request(it.words, it.given) for it in served.answered)
+        for kind, names in (('crash', CRASH), ('fails', FAIL)):
+            text.say('input ' + given.hex(), f'{kind} serve std / show')
+            told = [Outcome(out, DISK_FAULT if failed else 0, b'disk fault\n' if failed else b'').answer() for out, failed in texts_at(served)]
+            shown = {}
+
+            def seen(it):
+                if it.front not in shown:
+                    shown[it.front] = state(audit_of(it.payloads), told_output(looked_at(it.payloads)), it.front)
+                return shown[it.front]
+            text.seen(f'> {kind} serve std / show', [('answer', told)] + [(name, list(map(seen, states_at(served, name)))) for name in names])
+            text.count()
+    play_served_beginnings(text)
+    play_served_streams(text)
+    play_served_faults(text)
+
+
+def play_served_beginnings(text):
+    """What a node finds: no store, a damaged one, one that is not settled, one of format 1, and one of these with no next generation."""
+    text.case('a node that serves: what it finds')
+    text.put_files(b'')
+    text.tell('try', 'serve std', Outcome(status=NO_STORE, err=b'no store\n'), 'input 78')
+    text.put_files(header(SHORT, 1))
+    text.tell('try', 'serve std', Outcome(status=DAMAGED, err=b'damaged: file 0 at 14\n'), 'input 78')
+    for person in (fresh(NOTE), spoken(), heard()):
+        before = list(person.batches)
+        person.store.settle()
+        old, after = list(respelled(before, SHORT, WHOLE)), person.batches
+        shown = show_text(after).encode()
+        told = GREETING + b'0 %d 0\n' % len(shown) + shown
+        for spelled, payloads, file in ((SHORT, before, (0, framed(header(SHORT, 1), after))), (WHOLE, old, (1, framed(header(SHORT, 2), after)))):
+            text.journal(spelled, 1, payloads)
+            serves(text, Outcome(told, after=[file]), 'ask show')
+    text.put_files(framed(header(WHOLE, 2 ** 64 - 1), old))
+    text.tell('try', 'serve std', Outcome(status=10, err=b'full\n'), 'input 78')
+
+
+def play_served_streams(text):
+    """Reads and writes that fail, and a stream that ends at each of its bytes."""
+    for seed, served in lives(range(200, 206)):
+        begin_life(text, f'streams {seed}', served)
+        parts = [spelled_request(it.words, it.given) for it in served.answered]
+        given, quits = b''.join(parts), served.answered[-1].words == ['quit']
+        ends = list(itertools.accumulate(map(len, parts)))
+        whole = reads_of(given)
+        piece = len(given) // 4 + 1
+        for call in range(whole - quits):
+            number = sum(end <= call * piece for end in ends)
+            answered, after = answered_of(served, number)
+            prepare(text, served.answered)
+            serves(text, Outcome(text_of(answered), READ_FAULT, b'read fault\n', after), f'failread {call}')
+            text.journal(SHORT, 1, served.begun.payloads)
+        fronts = fronts_of(served.answered, PIECE)
+        for call in (*range(6), len(fronts) // 2, len(fronts) - 1):
+            length, number = fronts[call]
+            after = answered_of(served, number)[1]
+            prepare(text, served.answered)
+            serves(text, Outcome(text_of(served.answered)[:length], WRITE_FAULT, b'write fault\n', after), f'failout {call}')
+            text.journal(SHORT, 1, served.begun.payloads)
+    for seed, served in lives((300, 301), stopped_life):
+        begin_life(text, f'cuts {seed}', served)
+        prepare(text, served.answered)
+        text.say('cuts')
+        text.answers.append('> cuts')
+        cut, last = 0, None
+        for number in range(len(served.answered) + 1):
+            answered, after = answered_of(served, number)
+            lines = Outcome(text_of(answered), after=after).lines(text.files)
+            if lines != last:
+                text.answers += [f'from {cut}', *lines]
+            last = lines
+            if number < len(served.answered):
+                cut += len(spelled_request(served.answered[number].words, served.answered[number].given))
+        text.count()
+
+
+FAULTS = (b'\n', b'x\n', b'5\n', b' 5 0\n', b'5  0\n', b'5 0 \n', b'05 0\n', b'5 00\n', b'+5 0\n', b'-5 0\n', b'5\t0\n', b'5 0\r\n', b'5 Long\n', b'5 fail\n',
+          b'32769 0\n', b'0 268435457\n', b'18446744073709551621 0\n'[:16], b'\xff\xff\n', b'0123456789abcdef', b'4 0\nshow', b'1 failed\nx')
+HALVES = (b'5', b'5 0', b'0123456789abcde', b'5 0\n', b'5 0\nshow', b'5 3\nshow\0ab', b'32768 268435456')
+
+
+def play_served_faults(text):
+    """What is no request behind one that is, half of one, and words that are none."""
+    served = begun_node(random.Random(1))
+    served.ask(['contact'])
+    told, after = text_of(served.answered), list(enumerate(served.store.files))
+    begin_life(text, 'what is no request', served)
+    for fault in FAULTS:
+        prepare(text, served.answered)
+        text.say('raw ' + fault.hex())
+        prepare(text, served.answered)
+        serves(text, Outcome(told + b'1 0 18\n' + NO_REQUEST, 1, NO_REQUEST, after))
+        text.journal(SHORT, 1, served.begun.payloads)
+    begin_life(text, 'half a request', served)
+    for half in HALVES:
+        prepare(text, served.answered)
+        serves(text, Outcome(told, after=after), 'raw ' + half.hex())
+        text.journal(SHORT, 1, served.begun.payloads)
+    begin_life(text, 'words that are none', served)
+    for data, place in ((b'0 0\n', 0), (b'0 3\nabc', 0), (b'0 failed\n', 0), (b'0 long\n', 0), (b'1 0\n\0', 0), (b'2 0\n\xff\0', 0), (b'7 1\nbody\0\xff\0i', 1),
+                        (b'6 0\nshow\0\0', 1), (b'5 0\nhelp\0', 0), (b'6 0\nserve\0', 1), (b'12 0\nserve\0sockt\0', 1), (b'12 0\nserve\0std\0x\0', 2)):
+        line = b'usage: word %d\n' % place
+        serves(text, Outcome(GREETING + b'1 0 %d\n' % len(line) + line), 'raw ' + data.hex())
+
+
 def play_audits(text):
     text.case('audits')
     for first, second, line in audit_rows():
@@ -763,6 +953,8 @@ def made():
     play_tries(text)
     play_audits(text)
     play_status(text, reader.names)
+    play_served(text)
+    text.end()
     return text
 
 

@@ -147,6 +147,14 @@ asks_way false = asks_sending
 abbrev pub asks_mailbox : Rest
 asks_mailbox = word_then way_in asks_way
 
+-- the standard input and output
+abbrev pub std_in : List ℕ → Option (Unit {0})
+std_in word = if bytes_eq word (codes "std") then Some tt else None
+
+-- where requests come from and answers go
+abbrev pub asks_serve : Rest
+asks_serve = word_then std_in (λ u. no_more command.Serve)
+
 -- whether one of the links is over the standard input and output
 abbrev pub has_std : List LinkWords → Bool
 has_std links = list_any (λ (link : LinkWords). is_std link.spec) links
@@ -204,6 +212,7 @@ asks_of word =
     else if bytes_eq word (codes "say") then asks_say
     else if bytes_eq word (codes "agree") then asks_agree
     else if bytes_eq word (codes "mailbox") then asks_mailbox
+    else if bytes_eq word (codes "serve") then asks_serve
     else if bytes_eq word (codes "sync") then asks_sync
     else ends_or_usage (plain_in word)
 

@@ -55,6 +55,8 @@ pub enum Command {
     /// `mailbox out CONTACT LATENCY COUNT`: writes a file for a contact, with at most so many outputs,
     /// on a session of this latency, in milliseconds.
     MailboxOut(u8, u32, u32),
+    /// `serve std`: answers the requests of its standard input, as a node that holds the store.
+    Serve,
     /// `sync TURNS QUIET` and the words of each link: runs sessions over the links, at most so many
     /// turns, and until so many turns in a row were still.
     Sync(u32, u32, LinkList),
@@ -83,6 +85,7 @@ impl Command {
             | Command::Compact
             | Command::MailboxIn(_)
             | Command::MailboxOut(_, _, _)
+            | Command::Serve
             | Command::Sync(_, _, _) => true,
             Command::Try(_, _)
             | Command::Records

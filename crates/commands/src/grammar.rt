@@ -3,7 +3,7 @@ ghost use Rattle.std.specs.Prelude.{◌≡◌, ◌≤◌, drop, IfOk, IfSome};
 ghost use Rattle.commands.specs.Reading.{asks, asks_agree, asks_of, asks_try, asks_group};
 ghost use Rattle.commands.specs.Reading.{asks_mailbox, asks_share, asks_sending, asks_taking};
 ghost use Rattle.commands.specs.Reading.{asks_post, asks_body, asks_say, asks_saying, asks_sync};
-ghost use Rattle.commands.specs.Reading.{asks_inbox, asks_inbox_from, asks_tree, no_more};
+ghost use Rattle.commands.specs.Reading.{asks_inbox, asks_inbox_from, asks_serve, asks_tree, no_more};
 ghost use Rattle.commands.specs.Reading.{IsReadAs, IsCommandWithin, plain_in};
 ghost use Rattle.sync_words.specs.Words.{texts};
 
@@ -11,7 +11,8 @@ use crate::command::Command;
 use crate::fault::WordsFault;
 use crate::links::{MAX_LATENCY, read_links};
 use crate::words::{
-    descriptor_at, id_at, is_left_at, level_at, name_at, number_at, positive_at, stance_at, way_at,
+    descriptor_at, id_at, is_left_at, level_at, name_at, number_at, positive_at, stance_at, std_at,
+    way_at,
 };
 use std::alloc::Global;
 use sync_ids::{GroupId, MAX_TIMESTAMP};
@@ -62,6 +63,7 @@ fn read_command(alloc: Global, word: &str, words: &[String]) -> Result<Command, 
         "say" => read_say(alloc, words),
         "agree" => read_agree(words),
         "mailbox" => read_mailbox(words),
+        "serve" => read_serve(words),
         "sync" => read_sync(alloc, words),
         word => match plain(word) {
             Some(command) => read_end(words, 1, command),
@@ -246,6 +248,14 @@ fn read_sending(words: &[String]) -> Result<Command, WordsFault>
     let count = positive_at(words, 4, MAX_OUTS)?;
     let asked = Command::MailboxOut(contact as u8, latency as u32, count as u32);
     read_end(words, 5, asked)
+}
+
+fn read_serve(words: &[String]) -> Result<Command, WordsFault>
+    ensures read { IsReadAs (asks_serve 1 (drop 1 (texts words.now))) result }
+    ensures within { IfOk result IsCommandWithin }
+{
+    std_at(words, 1)?;
+    read_end(words, 2, Command::Serve)
 }
 
 fn read_sync(alloc: Global, words: &[String]) -> Result<Command, WordsFault>

@@ -1,7 +1,7 @@
 // The words of a command line, one by one.
 ghost use Rattle.std.specs.Prelude.{◌≡◌, ◌+◌, ◌≤◌, ◌∷◌, [], drop, IfOk, IfErr, MatchOption};
 ghost use Rattle.commands.specs.Reading.{is_left, IsDescriptor, IsName, ReadsWord, StopsAtWord};
-ghost use Rattle.commands.specs.Reading.{stance_in, way_in};
+ghost use Rattle.commands.specs.Reading.{stance_in, std_in, way_in};
 ghost use Rattle.sync_words.specs.Words.{name_in, descriptor_in, number_in, positive_in, id_in};
 ghost use Rattle.sync_words.specs.Words.{level_in, mode_in, spec_in, texts};
 
@@ -152,6 +152,27 @@ fn way(word: &str) -> Option<bool>
     match word {
         "in" => Some(true),
         "out" => Some(false),
+        _ => None,
+    }
+}
+
+/// Reads the word at this place, which is `std`.
+pub fn std_at(words: &[String], place: usize) -> Result<(), WordsFault>
+    ensures ok { IfOk result (ReadsWord std_in (texts words.now) place) }
+    ensures err { IfErr result (StopsAtWord std_in (texts words.now) place) }
+{
+    match word_at(words, place) {
+        Some(word) => std_word(word).ok_or(WordsFault::Usage(place)),
+        None => Err(WordsFault::Usage(place)),
+    }
+}
+
+// Nothing more, where the word is `std`.
+fn std_word(word: &str) -> Option<()>
+    ensures { result ≡ std_in word.now }
+{
+    match word {
+        "std" => Some(()),
         _ => None,
     }
 }

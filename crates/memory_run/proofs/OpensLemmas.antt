@@ -29,13 +29,21 @@ pub opens_in_memory : (clients : Meaning) (asked : Asked) (old new : MemHostValu
 opens_in_memory clients (Usage place) old new opens = tt
 opens_in_memory clients (Do (command.Sync turns quiet links)) old new opens =
     λ made since until left image.
-    let all = opens tt (files_by old old.disk.calls) refl (all_told new) in
+    let all = opens.0 tt (files_by old old.disk.calls) refl (all_told new) in
     elim (all.moments.each (record { files = left; sent = told.sent_by (first_calls made new) })
     (record { made = made; since = since; until = until; image = image; sent = refl })) [
       | inl untouched ↦ inl (record {
         image = untouched.now.image;
         nothing_sent = untouched.nothing_sent;
       })
+      | inr on ↦ inr on
+    ]
+opens_in_memory clients (Do command.Serve) old new opens =
+    λ made since until left image.
+    let all = opens.1 tt (files_by old old.disk.calls) refl in
+    elim (all.each (record { files = left; sent = told.sent_by (first_calls made new) })
+    (record { made = made; since = since; until = until; image = image; sent = refl })) [
+      | inl now ↦ inl now.image
       | inr on ↦ inr on
     ]
 opens_in_memory clients (Do _) old new opens = tt

@@ -13,7 +13,8 @@ use Rattle.sync_node.specs.Output.{heard_on}
 use Rattle.commands.specs.declared.command.Command.TheVariants as command
 use Rattle.commands.specs.Reading.{Asked}
 use Rattle.commands.specs.Reading.Asked.{Do}
-use Rattle.sync_top.specs.Sound.{OpensOn}
+use Rattle.store_commands.specs.Stopping.{StoodFor}
+use Rattle.sync_top.specs.Sound.{OpensInLife, OpensOn}
 
 -- the calls of a host that left a trace, the first so many of them
 abbrev pub first_calls : ℕ → MemHostValue → List Change
@@ -33,7 +34,7 @@ pub record IsAsBefore (old : MemHostValue) (left : Two (List ℕ)) (sent : ℕ �
 
 -- From one host to a later one: whatever a crash leaves after so many calls is as before, or stands
 -- for a sound journal of the run, by what the links of the later host heard and what was sent by
--- then.
+-- then, or of the life of a node that served.
 abbrev pub OpensInMemory : Meaning → Asked → (old new : MemHostValue) → Type 0
 OpensInMemory clients (Do (command.Sync turns quiet links)) old new =
     (made : ℕ) → length old.disk.calls ≤ made → made ≤ length new.disk.calls
@@ -41,4 +42,10 @@ OpensInMemory clients (Do (command.Sync turns quiet links)) old new =
     → IsAsBefore old left (sent_by (first_calls made new))
     ⊎ OpensOn clients (stands clients (read_files (files_by old old.disk.calls)))
     (heard_on (host_told new).links) (sent_by (first_calls made new)) left
+OpensInMemory clients (Do command.Serve) old new =
+    (made : ℕ) → length old.disk.calls ≤ made → made ≤ length new.disk.calls
+    → (left : Two (List ℕ)) → IsImage (files_by new (first_calls made new)) left
+    → IsImage (files_by old old.disk.calls) left
+    ⊎ StoodFor (stands clients (read_files (files_by old old.disk.calls)))
+    (λ begin. OpensInLife clients begin left)
 OpensInMemory clients _ old new = Unit {0}

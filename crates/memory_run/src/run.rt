@@ -42,8 +42,8 @@ impl Drop for Came {
 /// Runs the command of these words, those after the program's name, over a host in memory, reading
 /// this source. Of the words of `sync` it holds of every such host: whatever its links answer and
 /// whichever of its calls fail, and after however many of its calls a crash comes, its files stand
-/// for a sound journal, or are as a crash might have left them before, nothing being sent. What the
-/// words ask for came to an outcome, and the status and the error output tell it.
+/// for a sound journal, or are as a crash might have left them before, nothing being sent; and so it
+/// is of the words `serve std`, whatever its source asks. What the words ask for came to an outcome, and the status and the error output tell it.
 pub fn run_in_memory<C: Clients>(
     alloc: Global,
     hasher: RandomState,

@@ -51,6 +51,8 @@ pub enum Topic {
     MailboxOut,
     /// `sync`.
     Sync,
+    /// `serve`.
+    Serve,
     /// `quit`.
     Quit,
     /// `records`.
@@ -84,6 +86,7 @@ impl Topic {
             Topic::MailboxIn => texts::MAILBOX_IN,
             Topic::MailboxOut => texts::MAILBOX_OUT,
             Topic::Sync => texts::SYNC,
+            Topic::Serve => texts::SERVE,
             Topic::Quit => texts::QUIT,
             Topic::Records => texts::RECORDS,
             Topic::Try => texts::TRY,
@@ -159,6 +162,7 @@ fn topic_named(name: &str) -> Option<Topic>
         "compact" => Some(Topic::Compact),
         "mailbox" => Some(Topic::Mailbox),
         "sync" => Some(Topic::Sync),
+        "serve" => Some(Topic::Serve),
         "quit" => Some(Topic::Quit),
         "records" => Some(Topic::Records),
         "try" => Some(Topic::Try),

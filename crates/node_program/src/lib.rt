@@ -60,8 +60,9 @@ where
 }
 
 // Does what the words ask for. The locks on the files of the store are let go of before the first
-// write to the output or the error output. Behind `disk fault` a second line says why, and behind a
-// usage line of words that begin with no command where help is.
+// write to the output or the error output; of one that stays, before that to the error output alone.
+// Behind `disk fault` a second line says why, and behind a usage line of words that begin with no
+// command where help is.
 fn obey<R, I, O, E>(
     rt: R,
     alloc: Global,
@@ -83,7 +84,7 @@ where
         return Err(AllocError);
     };
     let mut host = FileHost::with(rt, ".", need)?;
-    hand_lock(&host, out, err)?;
+    hand_lock(&host, need, out, err)?;
     let status = run(
         alloc,
         hasher,
@@ -104,13 +105,17 @@ where
     Ok(status)
 }
 
-// Has both outputs let go of the locks on the files before they write.
+// Has both outputs let go of the locks on the files before they write. Who stays answers on its output
+// for as long as it holds the files, and writes to the error output once it is done with them.
 fn hand_lock<R: Runtime + Net, O: Write + Drop, E: Write + Drop>(
     host: &FileHost<R>,
+    need: Need,
     out: &mut StdSink<O>,
     err: &mut StdSink<E>,
 ) -> Result<(), AllocError> {
-    out.let_go_first(host.lock()?);
+    if need != Need::Stay {
+        out.let_go_first(host.lock()?);
+    }
     err.let_go_first(host.lock()?);
     Ok(())
 }

@@ -17,7 +17,7 @@ pub fn need_of(command: &Command) -> Need
     match command {
         Command::Try(_, _) | Command::Records | Command::Quit => Need::Nothing,
         Command::Init => Need::Make,
-        Command::Sync(_, _, _) => Need::Stay,
+        Command::Sync(_, _, _) | Command::Serve => Need::Stay,
         _ if command.may_write() => Need::Write,
         _ => Need::Read,
     }

@@ -29,12 +29,13 @@ use Rattle.mailbox_commands.specs.declared.sending.Sending.{Sending}
 use Rattle.mailbox_commands.specs.Sending.{HasSentMail}
 use Rattle.mailbox_commands.specs.Taking.{HasTakenMail}
 
--- a command of a store that a node does which holds it: not one that uses none, no run of sessions,
--- which would want the store for itself, and not `quit`, which ends the node
+-- a command of a store that a node does which holds it: not one that uses none, no run of sessions and no other node,
+-- which would want the store for themselves, and not `quit`, which ends the node
 abbrev pub is_done_by_node : Command → Bool
 is_done_by_node (command.Try name descriptor) = false
 is_done_by_node command.Records = false
 is_done_by_node (command.Sync turns quiet links) = false
+is_done_by_node command.Serve = false
 is_done_by_node command.Quit = false
 is_done_by_node _ = true
 

@@ -23,9 +23,9 @@ use sync_words::Outcome;
 use tree_commands::{Window, print_tree_loaded};
 
 /// Does what a command asks for over a store that is served, as by itself over its files as they
-/// stand: `init` finds the store. The words of `try` and `records` use no store, a run of sessions
-/// would want it for itself, and `quit` ends the node: they are not done here. After each outcome but `DiskFault` the
-/// store may be used again; after `Memory` it is to be settled first.
+/// stand: `init` finds the store. The words of `try` and `records` use no store, a run of sessions and
+/// another node would want it for themselves, and `quit` ends the node: they are not done here. After
+/// each outcome but `DiskFault` the store may be used again; after `Memory` it is to be settled first.
 pub fn obey<H: Host, S: Source, W: Sink, C: Clients>(
     alloc: Global,
     store: &mut Store,
@@ -90,8 +90,10 @@ pub fn obey<H: Host, S: Source, W: Sink, C: Clients>(
             send_mail_loaded(alloc, store, sending, host, out, clients)
         }
         Command::Status => print_status_loaded(alloc, store, host, out),
-        Command::Try(_, _) | Command::Records | Command::Sync(_, _, _) | Command::Quit => {
-            unreachable!()
-        }
+        Command::Try(_, _)
+        | Command::Records
+        | Command::Sync(_, _, _)
+        | Command::Serve
+        | Command::Quit => unreachable!(),
     }
 }

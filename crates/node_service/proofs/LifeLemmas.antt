@@ -12,7 +12,8 @@ use Rattle.request_frames.specs.Requests.{Request, ending, requests}
 use Rattle.sync_words.specs.declared.outcome.Outcome.{Outcome}
 use Rattle.sync_words.specs.declared.outcome.Outcome.TheVariants as outcome
 use Rattle.node_service.specs.Ears.{CameBy, EarStands, HasTold, HearsOn, IsEar, TellsNext, rest_of}
-use Rattle.node_service.specs.Lives.{Answered, AnsweredOn, Answers, GoOn, HasLived, last_of}
+use Rattle.node_service.specs.Lives.{Answered, AnsweredOn, Answers, GoOn, GoOnToLast, HasLived}
+use Rattle.node_service.specs.Lives.{last_of}
 use Rattle.node_service.specs.Lives.{life_text}
 use Rattle.node_service.specs.Lives.{EndsByInput, EndsByRequest, fault_answer, greeting}
 use Rattle.node_service.specs.Lives.{requests_of}
@@ -51,6 +52,7 @@ lived_none {H} answers o input out = record {
   answered = [];
   are = tt;
   last = refl;
+  go_on = tt;
   later = requests [];
   requests_are = refl;
   ended = inr (record {
@@ -79,6 +81,18 @@ go_on_more : {H : Type 0} (before : List (Answered H)) (a : Answered H) → GoOn
     → GoOn (before ++ a ∷ [])
 go_on_more [] a on is = (is, tt)
 go_on_more (b ∷ before) a on is = (on.0, go_on_more before a on.1 is)
+
+-- a node that went on behind each went on behind each but the last
+go_on_all : {H : Type 0} (answered : List (Answered H)) → GoOn answered → GoOnToLast answered
+go_on_all [] on = tt
+go_on_all (a ∷ []) on = tt
+go_on_all (a ∷ b ∷ later) on = (on.0, go_on_all (b ∷ later) on.1)
+
+go_on_before : {H : Type 0} (before : List (Answered H)) (a : Answered H) → GoOn before
+    → GoOnToLast (before ++ a ∷ [])
+go_on_before [] a on = tt
+go_on_before (b ∷ []) a on = (on.0, tt)
+go_on_before (b ∷ c ∷ before) a on = (on.0, go_on_before (c ∷ before) a on.1)
 
 requests_more : {H : Type 0} (before : List (Answered H)) (a : Answered H)
     → requests_of (before ++ a ∷ []) ≡ requests_of before ++ a.request ∷ []
@@ -148,6 +162,7 @@ lived_untold {H} answers o input out out' rose gets = record {
   answered = [];
   are = tt;
   last = refl;
+  go_on = tt;
   later = requests [];
   requests_are = refl;
   ended = inr (record {
@@ -173,6 +188,7 @@ lived_counted first now old host input input' out out' ear count l many =
       answered = l.answered;
       are = l.are;
       last = l.last;
+      go_on = go_on_all l.answered l.go_on;
       later = there.later;
       requests_are = there.requests_are;
       ended = inr (l.go_on, omega (arith, many, l.counted), l.told);
@@ -205,6 +221,7 @@ module _ {H : Type 0} (first now : Answers H) (old host : H) (input input' input
     answered = l.answered;
     are = l.are;
     last = l.last;
+    go_on = go_on_all l.answered l.go_on;
     later = later;
     requests_are = are;
     ended = inr ended;
@@ -361,6 +378,7 @@ module _ {H : Type 0} (first now : Answers H) (old host : H) (input input' input
       answered = more;
       are = are_more;
       last = last_then;
+      go_on = go_on_before l.answered n.a l.go_on;
       later = has_told.later;
       requests_are = has_told.requests_are;
       ended = ended;

@@ -65,6 +65,12 @@ abbrev pub GoOn : {H : Type 0} → List (Answered H) → Type 0
 GoOn [] = Unit {0}
 GoOn (a ∷ later) = (a.ends ≡ false) × GoOn later
 
+-- it went on behind each but the last
+abbrev pub GoOnToLast : {H : Type 0} → List (Answered H) → Type 0
+GoOnToLast [] = Unit {0}
+GoOnToLast (a ∷ []) = Unit {0}
+GoOnToLast (a ∷ b ∷ later) = (a.ends ≡ false) × GoOnToLast (b ∷ later)
+
 abbrev pub requests_of : {H : Type 0} → List (Answered H) → List Request
 requests_of {H} answered = map (λ (a : Answered H). a.request) answered
 
@@ -122,8 +128,8 @@ EndsByInput read answered input input' out out' outcome.Memory =
 EndsByInput read answered input input' out out' _ = ⊥
 
 -- A life: these bytes of the input were read, and of their requests the first were answered, in
--- order, each over the host that the one before left; the output got the greeting and their
--- answers.
+-- order, each over the host that the one before left, which went on behind each but the last; the
+-- output got the greeting and their answers.
 pub record HasLived {H : Type 0} (answers : Answers H) (old new : H)
     (input input' out out' : Stream) (came : Outcome) : Type 0 where
   pub read : List ℕ
@@ -131,6 +137,7 @@ pub record HasLived {H : Type 0} (answers : Answers H) (old new : H)
   pub answered : List (Answered H)
   pub are : AnsweredOn answers old answered
   pub last : new ≡ last_of old answered
+  pub go_on : GoOnToLast answered
   pub later : List Request
   pub requests_are : requests read ≡ requests_of answered ++ later
   pub ended : EndsByRequest answered out out' came

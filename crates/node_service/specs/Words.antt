@@ -38,10 +38,10 @@ abbrev pub IsAskedBy : (bytes : List ℕ) → Result Command WordsFault → Type
 IsAskedBy bytes (Err fault.Memory) = Unit {0}
 IsAskedBy bytes result = WordsAsk bytes result
 
--- how much of an input a command reads at most
+-- how much of an input a command reads at most: one byte more than it takes
 abbrev pub reads_most : Command → ℕ
 reads_most (command.Post group timestamp) = MAX_BODY + 1
-reads_most (command.MailboxIn contact) = MAX_INPUT
-reads_most (command.Try name descriptor) = MAX_INPUT
-reads_most command.Records = MAX_INPUT
+reads_most (command.MailboxIn contact) = MAX_INPUT + 1
+reads_most (command.Try name descriptor) = MAX_INPUT + 1
+reads_most command.Records = MAX_INPUT + 1
 reads_most _ = 0

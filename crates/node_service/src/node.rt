@@ -31,7 +31,8 @@ pub trait Node<H: Host> {
     ghost answers: { Self → Request → H → H → Outcome → List ℕ → Bool → Type 0 };
 
     /// Answers the request of these words, of whose input this is what was kept, at most so many
-    /// bytes. All that it does to the files is done when it returns.
+    /// bytes. What `answers` says of the host, that its files are synced among it, is so when this
+    /// returns, and only then is the answer told.
     fn answer(
         &mut self,
         words: &[u8],

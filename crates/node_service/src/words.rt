@@ -1,5 +1,6 @@
 // The words of a request, and what they ask for.
 ghost use Rattle.std.specs.Prelude.{◌≡◌, IfOk};
+ghost use Rattle.commands.specs.Reading.{IsCommandWithin};
 ghost use Rattle.node_service.specs.Words.{AreWords, IsAskedBy, parts_of, reads_most};
 ghost use Rattle.sync_words.specs.Words.{texts};
 
@@ -31,19 +32,20 @@ pub fn words_of(alloc: Global, bytes: &[u8]) -> Result<Vec<String>, AllocError>
 /// # Errors `Usage` exactly where the words are not in the grammar, with the place; `Memory` for
 /// want of memory.
 pub fn command_of(alloc: Global, bytes: &[u8]) -> Result<Command, WordsFault>
-    ensures { IsAskedBy bytes.now result }
+    ensures asked { IsAskedBy bytes.now result }
+    ensures within { IfOk result IsCommandWithin }
 {
     let words = words_of(alloc, bytes)?;
     read_words(alloc, words.as_slice())
 }
 
-/// How many bytes of its input a command reads at most, of an input that is within its limit.
+/// How many bytes of its input a command reads at most, one more than it takes.
 pub fn reads_most(command: &Command) -> usize
     ensures { result ≡ reads_most command.now }
 {
     match command {
         Command::Post(_, _) => MAX_BODY + 1,
-        Command::MailboxIn(_) | Command::Try(_, _) | Command::Records => MAX_INPUT,
+        Command::MailboxIn(_) | Command::Try(_, _) | Command::Records => MAX_INPUT + 1,
         _ => 0,
     }
 }

@@ -1,4 +1,5 @@
 //! The files of a store, copied beside a process that may write them.
+use crate::lock::pause;
 use crate::opening::{is_there, open};
 use crate::streams::read_full;
 use std::alloc::Global;
@@ -7,6 +8,7 @@ use std::io;
 use std::io::{ErrorKind, Read};
 use std::path::{Path, PathBuf};
 use std::rt::Files;
+use std::time::Clock;
 
 // How many bytes of a file are read at once.
 const PIECE: usize = 1_048_576;
@@ -20,14 +22,15 @@ const MOST: usize = MOST_PIECES * PIECE;
 // How many bytes of a file say which journal it has.
 const HEADER: usize = 14;
 
-// How often the files are copied where another one takes over meanwhile.
-const MOST_COPIES: usize = 10;
+// How often the files are copied where another one takes over meanwhile: a node that serves may be
+// asked to compact its store again and again.
+const MOST_COPIES: usize = 100;
 
 /// Both files of a store as they stood at one time. Each is read once, from its first byte on to
 /// the last one that is there. A process that adds to a journal writes a frame, and the byte that
 /// opens it behind that; so a front of the journal is read. Where a journal begins in one of the
-/// files meanwhile, both are read again.
-pub fn copy_both<R: Files>(
+/// files meanwhile, both are read again after a moment.
+pub fn copy_both<R: Files + Clock>(
     files: &R,
     alloc: Global,
     folder: &str,
@@ -41,6 +44,7 @@ pub fn copy_both<R: Files>(
         {
             return Ok(both);
         }
+        pause(files);
     }
     Err(ErrorKind::ResourceBusy.into())
 }

@@ -161,7 +161,8 @@ fn is_shared_in_time<R: Clock>(clock: &R, file: &File) -> io::Result<bool> {
     Ok(false)
 }
 
-fn pause<R: Clock>(clock: &R) {
+/// Sleeps before one looks again.
+pub(crate) fn pause<R: Clock>(clock: &R) {
     thread::sleep(clock, Duration::from_millis(PAUSE_MILLISECONDS));
 }
 

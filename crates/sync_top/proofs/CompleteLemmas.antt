@@ -56,12 +56,14 @@ use Rattle.store_commands.specs.Works.{DoesWork, HasWorked, IsWorkFull, Work}
 use Rattle.mailbox_commands.specs.Sending.{HasSentMail, out_errand}
 use Rattle.mailbox_commands.specs.Taking.{HasTakenMail, IsMail, IsTooMuch, in_errand, outcome_at}
 use Rattle.store_commands.proofs.Stood.{last_lacks}
-use Rattle.sync_top.specs.declared.input.TheConstants.{MAX_INPUT}
+use Rattle.stream_commands.specs.declared.input.TheConstants.{MAX_INPUT}
 use Rattle.sync_top.specs.Complete.{BytesDecide, ComesOut, Complete, NothingFails, ServesCommand}
 use Rattle.sync_top.specs.Complete.{StreamDecides}
-use Rattle.sync_top.specs.Duties.{duty_of, sending_of, to_send, to_take}
-use Rattle.sync_top.specs.Run.{WordsComeTo, ReadsStream, ReadsWhole, ReportsOutcome}
-use Rattle.sync_top.specs.Run.{Streams, TriesClient, outcome_of}
+use Rattle.node_requests.specs.Requests.{sending_of}
+use Rattle.sync_top.specs.Duties.{duty_of, to_send, to_take}
+use Rattle.stream_commands.specs.Streams.{ReadsStream, ReadsWhole}
+use Rattle.sync_top.specs.Run.{WordsComeTo, ReportsOutcome}
+use Rattle.stream_commands.specs.Streams.{Streams, TriesClient, outcome_of}
 use Rattle.sync_top.specs.Serving.{MayAddPlanned, MayAudit, MayCompact, MayPost, MayShow}
 use Rattle.sync_top.proofs.CompleteRuns.{run_comes_out}
 
@@ -482,6 +484,8 @@ command_comes_out clients (command.Try name descriptor) old new input input' out
 command_comes_out clients command.Records old new input input' out out' came comes serves fails =
     streams_decide input input' out out' came _ comes fails.source fails.sink
 command_comes_out clients command.Quit old new input input' out out' came comes serves fails =
+    absurd serves
+command_comes_out clients command.Serve old new input input' out out' came comes serves fails =
     absurd serves
 command_comes_out clients asked old new input input' out out' came (inl did) serves fails =
     duty_comes_out clients old new input input' out out' fails asked came did serves

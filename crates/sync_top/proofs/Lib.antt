@@ -1,7 +1,5 @@
-pub mod InputLemmas
-pub mod PlayLemmas
-pub mod StreamLemmas
 pub mod StateLemmas
+mod ServeLemmas
 pub mod UndamagedLemmas
 pub mod HeadlineLemmas
 pub mod SoundLemmas

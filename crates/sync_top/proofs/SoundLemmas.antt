@@ -29,8 +29,10 @@ use Rattle.commands.specs.Reading.{Asked}
 use Rattle.commands.specs.Reading.Asked.{Usage, Do}
 use Rattle.store_commands.specs.Stopping.{StoodFor}
 use Rattle.sync_run.specs.Headline.{IsUntouched, StandsForRun, sent_at_moment}
-use Rattle.sync_top.specs.Run.{Covered}
-use Rattle.sync_top.specs.Sound.{AlwaysOpens, OpensSound, RunsAreSound, TakesInOrder}
+use Rattle.sync_run.specs.Headline.{AlwaysLeaves}
+use Rattle.sync_top.specs.Run.{AsksServe, AsksSync, Covered}
+use Rattle.sync_top.specs.Sound.{AlwaysOpens, LifeOpens, LivesAreSound, OpensSound, RunsAreSound}
+use Rattle.sync_top.specs.Sound.{TakesInOrder}
 
 -- ---- the records that were taken
 
@@ -125,10 +127,11 @@ opens_then law clients words two old standing heard m (inr on) = inr (record {
   has = law clients words on.before heard (sent_at_moment m) m.files on.has;
 })
 
-pub always_opens : RunsAreSound → (clients : Meaning) (words : Asked) (old new : Outside)
-    → Covered clients words old new → AlwaysOpens clients words old new
-always_opens law clients (Usage place) old new covered sync = absurd sync
-always_opens law clients (Do (command.Sync turns quiet links)) old new covered sync =
+runs_open : RunsAreSound → (clients : Meaning) (words : Asked) (old new : Outside)
+    → Covered clients words old new
+    → AsksSync words → AlwaysLeaves clients (OpensSound clients) old new
+runs_open law clients (Usage place) old new covered sync = absurd sync
+runs_open law clients (Do (command.Sync turns quiet links)) old new covered sync =
     λ two files told.
     let leaves = covered two files told in
     record {
@@ -140,4 +143,36 @@ always_opens law clients (Do (command.Sync turns quiet links)) old new covered s
           law clients links begin (heard_on new.links) (sent_on new.links) (read_files told.two)
           (leaves.ends begin stood);
     }
-always_opens law clients (Do _) old new covered sync = absurd sync
+runs_open law clients (Do _) old new covered sync = absurd sync
+
+pub always_opens : RunsAreSound → (clients : Meaning) (words : Asked) (old new : Outside)
+    → Covered clients words old new → (AsksServe words → LifeOpens clients old new)
+    → AlwaysOpens clients words old new
+always_opens law clients words old new covered serves =
+    (runs_open law clients words old new covered, serves)
+
+-- ---- a life of a node
+
+pub lives_sound : ((clients : Meaning) (j : Journal) → Legal clients j → BringsOnce j)
+    → ((clients : Meaning) (j : Journal) → Legal clients j → JudgesOnce j)
+    → ((clients : Meaning) (j : Journal) → Legal clients j → EndsOnce j)
+    → ((clients : Meaning) (j : Journal) → Legal clients j → IsInOrder clients j)
+    → ((clients : Meaning) (j : Journal) → Legal clients j → HasOwnOrigin j)
+    → StandingIsLegal → LivesAreSound
+lives_sound brings judges ends order origin legal clients begin whole accounts files stands_for
+    goes_on =
+    let is_legal : Legal clients whole = legal clients files whole stands_for in
+    record {
+      whole = whole;
+      opens = stands_for;
+      sound = record {
+        legal = is_legal;
+        accounts = accounts;
+        goes_on = goes_on;
+        comes_once = brings clients whole is_legal;
+        judged_once = judges clients whole is_legal;
+        ends_once = ends clients whole is_legal;
+        in_order = order clients whole is_legal;
+        from_where = origin clients whole is_legal;
+      };
+    }

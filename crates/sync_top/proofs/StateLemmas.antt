@@ -38,9 +38,10 @@ use Rattle.store_commands.specs.Plans.{group_plan}
 use Rattle.sharing_commands.specs.declared.saying.Speech.{Speech}
 use Rattle.sharing_commands.specs.Sayings.{say_plan}
 use Rattle.store_commands.proofs.Passing.{passed}
-use Rattle.sync_top.specs.declared.input.TheConstants.{MAX_INPUT}
+use Rattle.stream_commands.specs.declared.input.TheConstants.{MAX_INPUT}
 use Rattle.sync_top.specs.Run.{WordsComeTo, DoesNothing, ReportsOutcome}
-use Rattle.sync_top.specs.Run.{ReadsStream, ReadsWhole, Streams, TriesClient, outcome_of}
+use Rattle.stream_commands.specs.Streams.{ReadsStream, ReadsWhole, TriesClient, outcome_of}
+use Rattle.stream_commands.proofs.AnswerLemmas.{tries_memory}
 use Rattle.sync_top.specs.States.{TellsStates, TellsWhole}
 
 -- a stream of records does not end as links do
@@ -133,12 +134,6 @@ does_nothing o input input' out out' idle quiet = record {
   untouched = (idle, quiet);
 }
 
-pub tries_memory : (clients : Meaning) (name descriptor : List ℕ) (o : Option ℕ)
-    (input input' out out' : Stream) → IsIdle out out'
-    → TriesClient clients name descriptor o input input' out out' outcome.Memory
-tries_memory clients name descriptor None input input' out out' idle = inr (refl, idle)
-tries_memory clients name descriptor (Some kind) input input' out out' idle = idle
-
 -- memory may be wanting for any words
 pub memory_comes : (clients : Meaning) (words : Asked) (o : Outside)
     (input input' out out' : Stream) → IsIdle input input' → IsIdle out out'
@@ -147,6 +142,7 @@ memory_comes clients (Usage place) o input input' out out' idle quiet = inr (ref
 memory_comes clients (Do (command.Try name descriptor)) o input input' out out' idle quiet =
     tries_memory clients name descriptor (clients.kind_of name 0) input input' out out' quiet
 memory_comes clients (Do command.Records) o input input' out out' idle quiet = quiet
+memory_comes clients (Do command.Serve) o input input' out out' idle quiet = tt
 memory_comes clients (Do command.Quit) o input input' out out' idle quiet = inr (refl, quiet)
 memory_comes clients (Do _) o input input' out out' idle quiet =
     inr (refl, does_nothing o input input' out out' idle quiet)
@@ -249,16 +245,3 @@ module _ (r : Result (Unit {0}) Outcome) (x : Outcome) (is : IsErrAnd r (λ e. e
   comes_on clients words old new input input' out out' =
       passed (λ (came : Outcome). WordsComeTo clients words old new input input' out out' came) r x
       is
-
-  pub streams_on : (told : List Item → List ℕ → Type 0) (input input' out out' : Stream)
-      → Streams told input input' out out' x → Streams told input input' out out' (came_to r)
-  streams_on told input input' out out' =
-      passed (λ (came : Outcome). Streams told input input' out out' came) r x is
-
-  pub tries_on : (clients : Meaning) (name descriptor : List ℕ) (o : Option ℕ)
-      (input input' out out' : Stream)
-      → TriesClient clients name descriptor o input input' out out' x
-      → TriesClient clients name descriptor o input input' out out' (came_to r)
-  tries_on clients name descriptor o input input' out out' =
-      passed (λ (came : Outcome). TriesClient clients name descriptor o input input' out out' came)
-      r x is

@@ -1,9 +1,8 @@
 -- No command damages a store.
 use Rattle.std.proofs.Common.{◌≡◌, ℕ, Bool, true, false, List, refl, sym, ap, ◌∙◌, subst, inl, inr}
 use Rattle.std.proofs.Common.{Option, Some, None}
-use Rattle.std.specs.Prelude.{◌⊎◌, ◌&&◌, ◌||◌, if◌then◌else◌, nat_lt}
+use Rattle.std.specs.Prelude.{◌⊎◌}
 use Rattle.outside.specs.Files.{Two, File, IsImage, read_files}
-use Rattle.outside.specs.Frames.{generation_in, is_open, journal_file}
 use Rattle.outside.specs.Outside.{Outside, Moment, MomentsAre, IsNow}
 use Rattle.outside.specs.Runs.{TellsAll}
 use Rattle.outside.proofs.CallSteps.{moments_map, moments_none}
@@ -14,9 +13,9 @@ use Rattle.sync_rules.specs.declared.states.Refused.TheVariants as refused
 use Rattle.sync_rules.specs.Clients.{Meaning}
 use Rattle.sync_rules.specs.Facts.{Facts, Id}
 use Rattle.entry_codec.specs.Standing.{Standing, journal, no_store}
-use Rattle.entry_codec.specs.ReadingFiles.{read_standing, stands_in}
 use Rattle.file_standing.specs.Standing.{stands}
-use Rattle.sync_store.specs.Begin.{InitMoment, has_open}
+use Rattle.sync_store.specs.Begin.{InitMoment}
+use Rattle.node_life.proofs.BegunLemmas.{no_store_there}
 use Rattle.sync_words.specs.declared.outcome.Outcome.{Outcome}
 use Rattle.sync_words.specs.declared.outcome.Outcome.TheVariants as outcome
 use Rattle.commands.specs.Reading.{Asked}
@@ -36,35 +35,15 @@ use Rattle.mailbox_commands.specs.Sending.{HasSentMail}
 use Rattle.mailbox_commands.specs.Taking.{HasTakenMail}
 use Rattle.sync_store.specs.Moments.{JournalMoment}
 use Rattle.sync_node.specs.Output.{heard_on}
-use Rattle.sync_top.specs.Duties.{duty_of, sending_of}
-use Rattle.sync_top.specs.Run.{AsksSync, WordsComeTo, ComesOfStore, Covered, KeepsHost}
+use Rattle.node_requests.specs.Requests.{sending_of}
+use Rattle.sync_top.specs.Duties.{duty_of}
+use Rattle.sync_top.proofs.ServeLemmas.{opens_undamaged}
+use Rattle.sync_top.specs.Sound.{LifeOpens}
+use Rattle.sync_top.specs.Run.{AsksServe, AsksSync, WordsComeTo, ComesOfStore, Covered, KeepsHost}
 use Rattle.sync_top.specs.Undamaged.{NeverDamaged, StandsForJournal, Undamaged}
 use Rattle.sync_run.specs.Headline.{Headline, IsUntouched, StandsForRun, sent_at_moment}
 use Rattle.store_commands.specs.Stopping.{StoodFor}
 use Rattle.sync_words.specs.declared.link_words.LinkWords.{LinkWords}
-
--- ---- a store that is begun
-
--- the journal's file by which headers are open, and whether the second is the later one
-abbrev file_where : (first second later : Bool) → Option ℕ
-file_where first second later =
-    if first then (if second && later then Some 1 else Some 0) else
-    (if second then Some 1 else None)
-
-no_file : (a b c : Bool) → (a || b) ≡ false → file_where a b c ≡ None
-no_file true b c none = absurd (let e : true ≡ false = none in cc)
-no_file false true c none = absurd (let e : true ≡ false = none in cc)
-no_file false false c none = refl
-
-none_open : (two : Two File) → has_open two ≡ false → journal_file (read_files two) ≡ None
-none_open two none =
-    no_file (is_open two.first.now) (is_open two.second.now)
-    (nat_lt (generation_in two.first.now) (generation_in two.second.now)) none
-
-no_store_there : (clients : Meaning) (two : Two File) → has_open two ≡ false → stands clients
-    (read_files two) ≡ no_store
-unfolding read_standing
-no_store_there clients two none = ap (stands_in clients (read_files two)) (none_open two none)
 
 -- ---- the moments of the commands
 
@@ -243,14 +222,17 @@ module _ {H : Type 0} (tells : H → Outside) (clients : Meaning) (h h' : H)
   pub undamaged : (words : Asked) → WordsComeTo clients words (tells h)
       (tells h') input input' out out' came → KeepsHost words h h'
       → Covered clients words (tells h) (tells h')
+      → (AsksServe words → LifeOpens clients (tells h) (tells h'))
       → NeverDamaged clients words (tells h) (tells h')
-  undamaged (Usage place) comes keeps covered told = kept keeps
-  undamaged (Do (command.Try name descriptor)) comes keeps covered told = kept keeps
-  undamaged (Do command.Records) comes keeps covered told = kept keeps
-  undamaged (Do command.Quit) comes keeps covered told = kept keeps
-  undamaged (Do (command.Sync turns quiet links)) comes keeps covered told =
+  undamaged (Usage place) comes keeps covered opens told = kept keeps
+  undamaged (Do (command.Try name descriptor)) comes keeps covered opens told = kept keeps
+  undamaged (Do command.Records) comes keeps covered opens told = kept keeps
+  undamaged (Do command.Quit) comes keeps covered opens told = kept keeps
+  undamaged (Do command.Serve) comes keeps covered opens told =
+      opens_undamaged clients (tells h) (tells h') (opens tt)
+  undamaged (Do (command.Sync turns quiet links)) comes keeps covered opens told =
       of_run clients (tells h) (tells h') links covered (told tt)
-  undamaged (Do asked) comes keeps covered told =
+  undamaged (Do asked) comes keeps covered opens told =
       of_store clients (tells h) (tells h')
       ((duty_of clients asked).comes (tells h) (tells h') input input' out out') input input' out
       out' came

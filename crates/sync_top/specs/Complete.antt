@@ -31,8 +31,8 @@ use Rattle.mailbox_core.specs.Files.{box_ending}
 use Rattle.mailbox_commands.specs.declared.taking.TheConstants.{MAX_MAIL}
 use Rattle.mailbox_commands.specs.Taking.{outcome_at}
 use Rattle.sync_top.specs.Duties.{duty_of}
-use Rattle.sync_top.specs.Run.{outcome_of}
-use Rattle.sync_top.specs.declared.input.TheConstants.{MAX_INPUT}
+use Rattle.stream_commands.specs.Streams.{outcome_of}
+use Rattle.stream_commands.specs.declared.input.TheConstants.{MAX_INPUT}
 
 -- ---- nothing stands in the way
 

@@ -4,7 +4,6 @@ use Rattle.outside.specs.Files.{Two, File}
 use Rattle.outside.specs.Host.{ReadsClock}
 use Rattle.outside.specs.Outside.{Outside}
 use Rattle.outside.specs.Streams.{Stream, IsIdle}
-use Rattle.sync_ids.specs.Values.{GroupValue}
 use Rattle.sync_rules.specs.Clients.{Meaning}
 use Rattle.sync_rules.specs.Facts.{Facts}
 use Rattle.sync_store.specs.Begin.{has_open}
@@ -25,7 +24,6 @@ use Rattle.store_commands.specs.Shown.{Showing, body_shown, listing_shown}
 use Rattle.tree_commands.specs.Trees.{tree_shown}
 use Rattle.audit_commands.specs.Audits.{HasAudited}
 use Rattle.status_commands.specs.Statuses.{HasToldStatus}
-use Rattle.sharing_commands.specs.declared.saying.Speech.{Speech}
 use Rattle.sharing_commands.specs.Agreeing.{HasAgreed, agreement}
 use Rattle.sharing_commands.specs.Agreement.{agree_test}
 use Rattle.sharing_commands.specs.Sayings.{say_plan}
@@ -36,6 +34,8 @@ use Rattle.mailbox_commands.specs.Sending.{HasSentMail, out_errand}
 use Rattle.mailbox_commands.specs.Taking.{HasTakenMail, IsMail, in_errand}
 use Rattle.sync_run.specs.declared.run.Limits.{Limits}
 use Rattle.sync_run.specs.Ran.{HasRun}
+use Rattle.stream_commands.specs.Streams.{UntouchedStreams}
+use Rattle.node_requests.specs.Requests.{group_named, sending_of, speech_of}
 use Rattle.sync_top.specs.Serving.{MayAddPlanned, MayAudit, MayCompact, MayPost}
 use Rattle.sync_top.specs.Serving.{MayShow, MaySync, MayDoWork}
 
@@ -64,23 +64,6 @@ to_show clients shown = unread (HasLooked clients shown) (MayShow clients shown)
 -- no header is open in the files
 abbrev pub HasNoHeader : Option (Two File) → Type 0
 HasNoHeader files = (two : Two File) × (files ≡ Some two) × (has_open two ≡ false)
-
--- the group that words describe
-abbrev pub group_named : (name : List ℕ) (major : ℕ) (descriptor : List ℕ) → GroupValue
-group_named name major descriptor = record { name = name; major = major; descriptor = descriptor }
-
--- what the words of `say` say
-abbrev pub speech_of : (group : List ℕ) (timestamp : ℕ) (join : Bool) → GroupValue → Speech
-speech_of group timestamp join def =
-    record { group = group; timestamp = timestamp; join = join; def = def }
-
--- what the words of `mailbox out` ask for
-abbrev pub sending_of : (contact latency count : ℕ) → Sending
-sending_of contact latency count = record { contact = contact; latency = latency; count = count }
-
--- nothing was read or written
-abbrev pub UntouchedStreams : Stream → Stream → Stream → Stream → Type 0
-UntouchedStreams input input' out out' = IsIdle input input' × IsIdle out out'
 
 -- a mailbox file is read
 abbrev pub to_take : Meaning → (contact : ℕ) → Duty
@@ -111,7 +94,8 @@ to_run clients limits links = record {
   serves = λ old new input input'. MaySync clients limits links old new;
 }
 
--- by the command; `try`, `records` and `quit` are about no store
+-- by the command; `try`, `records` and `quit` are about no store, and of a node that serves its life is
+-- told
 abbrev pub duty_of : Meaning → Command → Duty
 duty_of clients command.Init = unread HasBegun HasNoHeader
 duty_of clients command.Contact = to_add clients contact_plan settling.Before

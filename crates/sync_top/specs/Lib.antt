@@ -1,9 +1,7 @@
-pub mod RecordText
-pub mod Input
-pub mod Plays
 pub mod Serving
 pub mod Duties
 pub mod Run
+pub mod Lives
 pub mod States
 pub mod Undamaged
 pub mod Complete

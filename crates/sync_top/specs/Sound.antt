@@ -1,9 +1,10 @@
 -- The headline, put together: at each moment of a run of sessions the files stand for a legal
 -- journal that extends the old one, in which each message came, was judged and ended once, in order
--- and from where it may, and which took what was heard and has what was sent.
-use Rattle.std.specs.Prelude.{◌≡◌, ℕ, List, ◌∷◌, ◌++◌}
-use Rattle.outside.specs.Files.{Two}
-use Rattle.outside.specs.Outside.{Outside}
+-- and from where it may, and which took what was heard and has what was sent. At each moment of a
+-- life of a node they stand for such a journal too, which extends the one before, but for `compact`.
+use Rattle.std.specs.Prelude.{◌≡◌, ◌⊎◌, ℕ, zero, suc, List, ◌∷◌, ◌++◌, Some}
+use Rattle.outside.specs.Files.{File, Two, read_files}
+use Rattle.outside.specs.Outside.{IsNow, MomentsAre, Outside}
 use Rattle.sync_rules.specs.declared.entries.Entry.{Entry}
 use Rattle.sync_rules.specs.declared.entries.Entry.TheVariants as entry
 use Rattle.sync_rules.specs.Clients.{Meaning}
@@ -19,7 +20,8 @@ use Rattle.sync_words.specs.declared.link_words.LinkWords.{LinkWords}
 use Rattle.commands.specs.Reading.{Asked}
 use Rattle.store_commands.specs.Stopping.{StoodFor}
 use Rattle.sync_run.specs.Headline.{AlwaysLeaves, StandsForRun}
-use Rattle.sync_top.specs.Run.{AsksSync}
+use Rattle.brief_account.specs.Brief.{brief}
+use Rattle.sync_top.specs.Run.{AsksServe, AsksSync}
 
 -- ---- the journal of a moment
 
@@ -73,8 +75,48 @@ abbrev pub OpensOn : Meaning → Standing → (heard sent : ℕ → List ℕ) �
 OpensOn clients standing heard sent files =
     StoodFor standing (λ begin. OpensSound clients begin heard sent files)
 
+-- ---- a life of a node
+
+-- a journal goes on from another one through so many brief accounts
+abbrev pub GoesOnThrough : (accounts : ℕ) → (begin whole : Journal) → Type 0
+GoesOnThrough zero begin whole = ExtendsJournal whole begin
+GoesOnThrough (suc accounts) begin whole =
+    (settled : Journal) × ExtendsJournal settled begin × GoesOnThrough accounts (brief settled) whole
+
+-- what is so of a journal of a life that began with another one
+pub record IsLifeSound (clients : Meaning) (begin whole : Journal) : Type 0 where
+  pub legal : Legal clients whole
+  pub accounts : ℕ
+  pub goes_on : GoesOnThrough accounts begin whole
+  pub comes_once : BringsOnce whole
+  pub judged_once : JudgesOnce whole
+  pub ends_once : EndsOnce whole
+  pub in_order : IsInOrder clients whole
+  pub from_where : HasOwnOrigin whole
+
+-- files stand for such a journal
+pub record OpensInLife (clients : Meaning) (begin : Journal) (files : Two (List ℕ)) : Type 0 where
+  pub whole : Journal
+  pub opens : stands clients files ≡ journal whole
+  pub sound : IsLifeSound clients begin whole
+
+-- every journal of a life is such
+abbrev pub LivesAreSound : Type 0
+LivesAreSound =
+    (clients : Meaning) (begin whole : Journal) (accounts : ℕ) (files : Two (List ℕ))
+    → stands clients files ≡ journal whole → GoesOnThrough accounts begin whole
+    → OpensInLife clients begin files
+
+-- at each moment a crash leaves what it might have left before, or such files
+abbrev pub LifeOpens : Meaning → (old new : Outside) → Type 0
+LifeOpens clients old new =
+    (two : Two File) → old.files ≡ Some two
+    → MomentsAre old new (λ m. IsNow two old.links m
+    ⊎ StoodFor (stands clients (read_files two)) (λ begin. OpensInLife clients begin m.files))
+
 -- whatever the links bring, whatever call fails and whenever the device stops, a run of sessions
--- leaves files that open to a sound journal
+-- leaves files that open to a sound journal, and so does a node that serves, whatever is asked of it
 abbrev pub AlwaysOpens : Meaning → Asked → (old new : Outside) → Type 0
 AlwaysOpens clients words old new =
-    AsksSync words → AlwaysLeaves clients (OpensSound clients) old new
+    (AsksSync words → AlwaysLeaves clients (OpensSound clients) old new)
+    × (AsksServe words → LifeOpens clients old new)

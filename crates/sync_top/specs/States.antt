@@ -9,7 +9,7 @@ use Rattle.sync_rules.specs.Clients.{Meaning}
 use Rattle.sync_words.specs.declared.status.Status.{Status}
 use Rattle.sync_words.specs.declared.status.Status.TheVariants as status
 use Rattle.outside.specs.Streams.{Stream}
-use Rattle.sync_top.specs.Run.{ReadsWhole}
+use Rattle.stream_commands.specs.Streams.{ReadsWhole}
 use Rattle.commands.specs.Reading.{Asked}
 use Rattle.commands.specs.Reading.Asked.{Do}
 use Rattle.commands.specs.declared.command.Command.TheVariants as command

@@ -1,6 +1,6 @@
-//! What holds of the journal that a run of sessions leaves at any moment. The function does nothing;
-//! its clause is the law.
-ghost use Rattle.sync_top.specs.Sound.{RunsAreSound};
+//! What holds of the journal that a run of sessions or a node that serves leaves at any moment. The
+//! functions do nothing; their clauses are the laws.
+ghost use Rattle.sync_top.specs.Sound.{LivesAreSound, RunsAreSound};
 
 use entry_codec::laws::standing_is_legal;
 use sync_rules::laws::{once, order, origin, output};
@@ -18,5 +18,18 @@ pub fn runs_are_sound()
     order();
     origin();
     output();
+    standing_is_legal();
+}
+
+/// Sound in a life: a journal that goes on from that with which a node began, perhaps through brief
+/// accounts, is legal, and in it each message comes, is judged and ends at most once, is delivered
+/// behind its judgement and all that it depends on, and was written here or came from a contact to
+/// whom its group was not Invisible.
+pub fn lives_are_sound()
+    ensures { LivesAreSound }
+{
+    once();
+    order();
+    origin();
     standing_is_legal();
 }

@@ -2,7 +2,9 @@
 ghost use Rattle.std.specs.Prelude.{◌≡◌};
 ghost use Rattle.sync_top.specs.Complete.{Complete};
 ghost use Rattle.sync_top.specs.Looking.{LooksUnless};
-ghost use Rattle.sync_top.specs.Run.{AsksSync, WordsComeTo, Covered, KeepsHost, RanCommand};
+ghost use Rattle.sync_top.specs.Lives.{Serves, ServesAs};
+ghost use Rattle.sync_top.specs.Run.{AsksServe, AsksSync, WordsComeTo, Covered, KeepsHost};
+ghost use Rattle.sync_top.specs.Run.{RanCommand};
 ghost use Rattle.sync_top.specs.Run.{ReportsOutcome};
 ghost use Rattle.sync_top.specs.Sound.{AlwaysOpens};
 ghost use Rattle.sync_top.specs.States.{TellsWhole};
@@ -12,15 +14,16 @@ ghost use Rattle.sync_words.specs.Words.{texts};
 ghost use Rattle.commands.specs.Reading.{asks, IsCommandWithin};
 ghost use Rattle.commands.specs.Reading.Asked.{Do};
 
-use crate::laws::runs_are_sound;
-use crate::streams::{group_of, list_records, try_group};
+use crate::laws::{lives_are_sound, runs_are_sound};
 use audit_commands::print_audit;
 use commands::{Command, read_words};
 use journal_play::play_says;
+use node_life::serve_requests;
 use mailbox_commands::{Sending, send_mail, take_mail};
 use outside::{Host, Sink, Source, write_text};
 use sharing_commands::{Speech, agree, say};
 use status_commands::print_status;
+use stream_commands::{group_of, list_records, try_group};
 use std::alloc::Global;
 use std::hash::RandomState;
 use store_commands::{
@@ -38,7 +41,8 @@ use tree_commands::{Window, print_tree};
 /// was made on the host. A failing `err` never changes the status. Where the tests of a command
 /// hold, its files serve, there is room and no call fails, it is done, unless memory is wanting;
 /// but that for `try`, `records`
-/// and `mailbox in` the bytes decide, and for `sync` its course.
+/// and `mailbox in` the bytes decide, and for `sync` its course. For the words `serve std` it answers
+/// the requests of `input` on `out`, and what it does is said by its life.
 pub fn run<H: Host, S: Source, W: Sink, E: Sink, C: Clients>(
     alloc: Global,
     hasher: RandomState,
@@ -57,6 +61,9 @@ pub fn run<H: Host, S: Source, W: Sink, E: Sink, C: Clients>(
     ensures ran { RanCommand (C.meaning clients.now) (asks (texts words.now)) (H.tells host.old)
         (H.tells host.new) (S.tells input.old) (S.tells input.new) (W.tells out.old)
         (W.tells out.new) (E.tells err.old) (E.tells err.new) result }
+    ensures serves { Serves H.tells (C.meaning clients.now) (asks (texts words.now)) host.old
+        host.new (S.tells input.old) (S.tells input.new) (W.tells out.old) (W.tells out.new)
+        (E.tells err.old) (E.tells err.new) result }
     ensures states { TellsWhole (C.meaning clients.now) (asks (texts words.now)) (S.tells input.old)
         (S.tells input.new) (W.tells out.old) (W.tells out.new) result }
     ensures host { KeepsHost (asks (texts words.now)) host.old host.new }
@@ -70,6 +77,7 @@ pub fn run<H: Host, S: Source, W: Sink, E: Sink, C: Clients>(
     // The laws that the clauses on the states and on what is opened rest on.
     play_says();
     runs_are_sound();
+    lives_are_sound();
     let outcome = command(alloc, hasher, words, host, input, out, clients);
     report(&outcome, err)
 }
@@ -88,6 +96,8 @@ fn command<H: Host, S: Source, W: Sink, C: Clients>(
     ensures comes { WordsComeTo (C.meaning clients.now) (asks (texts words.now)) (H.tells host.old)
         (H.tells host.new) (S.tells input.old) (S.tells input.new) (W.tells out.old)
         (W.tells out.new) result }
+    ensures serves { ServesAs H.tells (C.meaning clients.now) (asks (texts words.now)) host.old
+        host.new (S.tells input.old) (S.tells input.new) (W.tells out.old) (W.tells out.new) result }
     ensures host { KeepsHost (asks (texts words.now)) host.old host.new }
 {
     match read_words(alloc, words) {
@@ -96,7 +106,7 @@ fn command<H: Host, S: Source, W: Sink, C: Clients>(
     }
 }
 
-// Does what a command says, also one that runs over links.
+// Does what a command says, also one that runs over links or serves.
 fn obey_any<H: Host, S: Source, W: Sink, C: Clients>(
     alloc: Global,
     hasher: RandomState,
@@ -110,6 +120,8 @@ fn obey_any<H: Host, S: Source, W: Sink, C: Clients>(
     requires unused { AsksSync (Do asked) → (H.tells host.old).links.dialled ≡ 0 }
     ensures comes { WordsComeTo (C.meaning clients.now) (Do asked) (H.tells host.old) (H.tells host.new)
         (S.tells input.old) (S.tells input.new) (W.tells out.old) (W.tells out.new) result }
+    ensures serves { ServesAs H.tells (C.meaning clients.now) (Do asked) host.old host.new
+        (S.tells input.old) (S.tells input.new) (W.tells out.old) (W.tells out.new) result }
     ensures host { KeepsHost (Do asked) host.old host.new }
 {
     match asked {
@@ -120,11 +132,12 @@ fn obey_any<H: Host, S: Source, W: Sink, C: Clients>(
                 Err(came) => came,
             }
         }
+        Command::Serve => serve_requests(alloc, hasher, host, input, out, clients),
         asked => Outcome::of(obey(alloc, hasher, asked, host, input, out, clients)),
     }
 }
 
-// Does what a command says that runs over no links.
+// Does what a command says that runs over no links and does not serve.
 fn obey<H: Host, S: Source, W: Sink, C: Clients>(
     alloc: Global,
     hasher: RandomState,
@@ -136,6 +149,7 @@ fn obey<H: Host, S: Source, W: Sink, C: Clients>(
 ) -> Result<(), Outcome>
     requires within { IsCommandWithin asked }
     requires alone { AsksSync (Do asked) → ⊥ }
+    requires serves_not { AsksServe (Do asked) → ⊥ }
     ensures comes { WordsComeTo (C.meaning clients.now) (Do asked) (H.tells host.old) (H.tells host.new)
         (S.tells input.old) (S.tells input.new) (W.tells out.old) (W.tells out.new)
         (came_to result) }
@@ -198,7 +212,7 @@ fn obey<H: Host, S: Source, W: Sink, C: Clients>(
             };
             send_mail(alloc, hasher, sending, host, out, clients)
         }
-        Command::Sync(_, _, _) => unreachable!(),
+        Command::Sync(_, _, _) | Command::Serve => unreachable!(),
     }
 }
 

@@ -6,6 +6,7 @@ use crate::compacting;
 use crate::crash::{Plan, crash, crash_twice};
 use crate::crossed::Crossed;
 use crate::files::{add_counted, add_frames, begun, copy_of, decoded};
+use crate::served::{add_request, compare, tell_cuts, tell_served};
 use crate::stage::Stage;
 use crate::stops::play_stops;
 use anyhow::{Context, Result};
@@ -25,6 +26,8 @@ pub(crate) struct Case {
     prepared: Vec<String>,
     crossed: Option<Crossed>,
     told: String,
+    stream: Vec<u8>,
+    asked: u64,
 }
 
 // Written out, so that whoever drops it proves one call.
@@ -37,6 +40,8 @@ impl Drop for Case {
             prepared: _,
             crossed: _,
             told: _,
+            stream: _,
+            asked: _,
         } = self;
     }
 }
@@ -56,6 +61,8 @@ impl Case {
             prepared: Vec::new(alloc),
             crossed: None,
             told: String::new(alloc),
+            stream: Vec::new(alloc),
+            asked: 0,
         })
     }
 
@@ -66,6 +73,9 @@ impl Case {
             "other" => return self.tell_other(),
             "compact" => return self.compact(),
             "find" => return self.find(),
+            "serve" => return self.serve(),
+            "cuts" => return self.cut(),
+            "asked" => return self.tell_asked(),
             _ => {}
         }
         let (kind, rest) = line.split_once(' ').context("a line of one word")?;
@@ -82,6 +92,7 @@ impl Case {
             "files" | "journal" | "add" | "count" => self.write_files(kind, rest),
             "words" => self.tell_words(rest),
             "run" | "try" | "loaded" => self.tell_command(kind, rest),
+            "ask" | "failed" | "long" | "raw" => self.ask(kind, rest),
             "crash" | "fails" | "twice" => self.tell_failing(kind, rest),
             _ => self.prepare(line),
         }
@@ -128,11 +139,80 @@ impl Case {
         let came = self.commanded(words, stage)?;
         tell_answer(self.alloc, &came, &mut self.told)?;
         tell_disk(self.alloc, &self.disk, came.disk(), &mut self.told)?;
+        if kind != "loaded" {
+            self.compare(words, &came)?;
+        }
         if kind == "run" {
             self.disk = copy_of(self.alloc, came.disk())?;
         }
         self.forget();
         Ok(())
+    }
+
+    // The same command is asked of a node, where one holds the files as they are.
+    fn compare(&mut self, words: &str, came: &Came) -> Result<()> {
+        let mut told = String::new(self.alloc);
+        if compare(self.alloc, self, words, came, &mut told)? {
+            self.asked = self.asked.saturating_add(1);
+        }
+        Ok(self.told.push_str(told.as_str())?)
+    }
+
+    // A request, or other bytes, for the next node.
+    fn ask(&mut self, kind: &str, rest: &str) -> Result<()> {
+        let input = self.input.as_slice();
+        add_request(self.alloc, kind, rest, input, &mut self.stream)?;
+        self.input = Vec::new(self.alloc);
+        Ok(())
+    }
+
+    // A node is asked all requests, and these are its files then.
+    fn serve(&mut self) -> Result<()> {
+        let mut told = String::new(self.alloc);
+        let came = tell_served(self.alloc, self, self.stream.as_slice(), &mut told)?;
+        self.disk = copy_of(self.alloc, came.disk())?;
+        self.ended(told)
+    }
+
+    // A node is asked each front of the requests.
+    fn cut(&mut self) -> Result<()> {
+        let mut told = String::new(self.alloc);
+        tell_cuts(self.alloc, self, self.stream.as_slice(), &mut told)?;
+        self.ended(told)
+    }
+
+    // What a node came to is told, and nothing is prepared for the next one.
+    fn ended(&mut self, told: String) -> Result<()> {
+        self.told.push_str(told.as_str())?;
+        self.stream = Vec::new(self.alloc);
+        self.forget();
+        Ok(())
+    }
+
+    fn tell_asked(&mut self) -> Result<()> {
+        writeln!(self.told, "asked {}", self.asked)?;
+        self.asked = 0;
+        Ok(())
+    }
+
+    /// What a node comes to over a stream.
+    pub(crate) fn served(&self, stream: &[u8]) -> Result<Came> {
+        self.ran("serve std", self.stage()?, stream)
+    }
+
+    /// The input that was prepared.
+    pub(crate) fn input(&self) -> &[u8] {
+        self.input.as_slice()
+    }
+
+    /// The disk.
+    pub(crate) fn disk(&self) -> &MemDisk {
+        &self.disk
+    }
+
+    /// Whether a call is to fail.
+    pub(crate) fn fails(&self) -> bool {
+        self.prepared.iter().any(|line| line.as_str().starts_with("fail"))
     }
 
     // What is read of words is told.
@@ -281,7 +361,11 @@ impl Case {
 
     /// What a command comes to on this stage.
     pub(crate) fn commanded(&self, words: &str, stage: Stage) -> Result<Came> {
-        let input = self.input.as_slice();
+        self.ran(words, stage, self.input.as_slice())
+    }
+
+    // The same with this input.
+    fn ran(&self, words: &str, stage: Stage, input: &[u8]) -> Result<Came> {
         match &self.crossed {
             Some(clients) => command(self.alloc, words, stage, input, clients),
             None => command(self.alloc, words, stage, input, &SharingBundle::new()),

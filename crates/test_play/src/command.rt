@@ -60,6 +60,11 @@ impl Came {
             & (self.err_bytes() == other.err_bytes())
     }
 
+    /// Whether it left both files as they are on this disk.
+    pub(crate) fn leaves(&self, disk: &MemDisk) -> bool {
+        (self.disk().file(0) == disk.file(0)) & (self.disk().file(1) == disk.file(1))
+    }
+
     /// The disk as the command left it.
     pub(crate) fn disk(&self) -> &MemDisk {
         self.host.disk()

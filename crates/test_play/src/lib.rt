@@ -32,6 +32,16 @@
 //!   from 0, fails.
 //! - `crossed ID ID`: from now on there is a client of every group, for which a message of time 1
 //!   depends on the second of these ids, and any other one on the first.
+//! - `ask WORDS`: a request of these words, and of the input that was prepared, behind those before;
+//!   `failed WORDS`, `long WORDS`: one whose input could not be read, or had more than a request can
+//!   bring; `raw HEX`: these bytes behind the requests.
+//! - `serve`: a node is asked these requests, and printed as by `run`; `cuts`: a node is asked each
+//!   front of these bytes, and what it comes to is printed where it is another than before, with how
+//!   many bytes they are.
+//! - `asked`: how many commands of `run` and `try` were asked of a node too since the case began:
+//!   each whose files a node holds as they are, and none of whose calls is to fail, but `sync`,
+//!   `serve` and `quit`. Where the answer or the files are others than by the command itself, that is
+//!   printed.
 //! - `sync WORDS`: a run whose outcome is printed: its status, its lines, what was sent on each link,
 //!   and file 0.
 //! - `mailbox WORDS`: a mailbox file is read or written, and what it came to is printed, and both
@@ -58,6 +68,7 @@ mod crash;
 mod crossed;
 mod expand;
 mod files;
+mod served;
 mod slow;
 mod stage;
 mod stops;

@@ -3,7 +3,8 @@ use Rattle.request_frames.specs.declared.reader.Ending.TheVariants as ends
 use Rattle.node_service.specs.declared.ear.Came.TheVariants as came
 use Rattle.node_service.proofs.LifeLemmas.{ends_at_fault, ends_done, ends_in_fault, ends_memory}
 use Rattle.node_service.proofs.LifeLemmas.{ends_read_fault, ends_too_much, goes_on, lived_first}
-use Rattle.node_service.proofs.LifeLemmas.{lived_none, lived_untold, next_whole, stops}
+use Rattle.node_service.proofs.LifeLemmas.{lived_counted, lived_none, lived_untold, next_whole}
+use Rattle.node_service.proofs.LifeLemmas.{stops}
 use Rattle.node_service.proofs.life.serve.Goals as goal
 
 pub returns-in_default : goal.returns-in_default
@@ -86,3 +87,7 @@ requests-preserved g c = (
       c.in-Request.ensures.sound c.in-Ok-answer_next.ensures.later,
   c.in-Ok-answer_next.ensures.stays,
 )
+
+pub returns : goal.returns
+returns g c =
+    lived_counted _ _ _ _ _ _ _ _ _ _ c.requests.invariant.0 c.requests-test.false

@@ -3,6 +3,7 @@ use Rattle.sync_words.specs.Words.{texts}
 use Rattle.sync_top.proofs.CompleteLemmas.{complete}
 use Rattle.sync_top.proofs.HeadlineLemmas.{covers}
 use Rattle.sync_top.proofs.LookLemmas.{only_looks}
+use Rattle.sync_top.proofs.ServeLemmas.{words_open}
 use Rattle.sync_top.proofs.SoundLemmas.{always_opens}
 use Rattle.sync_top.proofs.StateLemmas.{tells}
 use Rattle.sync_top.proofs.UndamagedLemmas.{undamaged}
@@ -30,6 +31,9 @@ returns-clause-undamaged g c =
     (g.H.Disk.tells c.args.host.now)
     (g.H.Disk.tells c.command-outcome.new.host) _ _ _ _ c.command-outcome.result c.requires.unused
     c.command-outcome.ensures.comes)
+    (words_open g.H.Disk.tells c.lives_are_sound.ensures (g.C.Clients.meaning c.args.clients.now)
+    (asks (texts c.args.words.now)) c.args.host.now c.command-outcome.new.host _ _ _ _
+    c.command-outcome.result c.command-outcome.ensures.serves)
 
 pub returns-clause-headline : goal.returns-clause-headline
 returns-clause-headline g c =
@@ -59,3 +63,13 @@ returns-clause-opens g c =
     (g.H.Disk.tells c.args.host.now)
     (g.H.Disk.tells c.command-outcome.new.host) _ _ _ _ c.command-outcome.result c.requires.unused
     c.command-outcome.ensures.comes)
+    (words_open g.H.Disk.tells c.lives_are_sound.ensures (g.C.Clients.meaning c.args.clients.now)
+    (asks (texts c.args.words.now)) c.args.host.now c.command-outcome.new.host _ _ _ _
+    c.command-outcome.result c.command-outcome.ensures.serves)
+
+pub returns-clause-serves : goal.returns-clause-serves
+returns-clause-serves g c = record {
+  came = c.command-outcome.result;
+  lived = c.command-outcome.ensures.serves;
+  reports = c.report.ensures;
+}

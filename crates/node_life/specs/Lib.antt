@@ -1,0 +1,5 @@
+pub mod Inputs
+pub mod Settling
+pub mod Requests
+pub mod Ways
+pub mod Serving

@@ -1,0 +1,215 @@
+//! The node that holds a store.
+ghost use Rattle.std.specs.Prelude.{◌≡◌, [], List, ℕ, length, true};
+ghost use Rattle.commands.specs.Reading.{IsCommandWithin};
+ghost use Rattle.commands.specs.Reading.Asked.{Do};
+ghost use Rattle.request_frames.specs.Laws.{KeepsOf};
+ghost use Rattle.request_frames.specs.Requests.{Request};
+ghost use Rattle.request_frames.specs.declared.reader.Stage.TheVariants as stage;
+ghost use Rattle.store_commands.specs.Serving.{IsReadyToServe};
+ghost use Rattle.node_requests.specs.Requests.{is_done_by_node};
+ghost use Rattle.node_life.specs.Inputs.{ReadsGiven};
+ghost use Rattle.node_life.specs.Requests.{AnswersAsked, AnswersOr, AreStreams, StaysReady, bare};
+ghost use Rattle.node_life.specs.Requests.{is_enough, said_by, said_of};
+ghost use Rattle.node_life.specs.Requests.{goodbye};
+
+use crate::input::{Failing, Given};
+use commands::Command;
+use node_requests::obey;
+use node_service::{Node, Reply, command_of, reads_most};
+use outside::{Host, MemSink, Source};
+use request_frames::InputSize;
+use std::alloc::Global;
+use std::hash::RandomState;
+use store_commands::migrate_and_settle;
+use stream_commands::{list_records, try_group};
+use sync_ids::MAX_BODY;
+use sync_rules::Clients;
+use sync_store::Store;
+use sync_words::Outcome;
+
+/// A node that holds a store.
+#[derive(Drop)]
+pub struct Holder<'a, C: Clients> {
+    pub alloc: Global,
+    pub hasher: RandomState,
+    pub store: Store,
+    pub clients: &'a C,
+}
+
+impl<'a, C: Clients, H: Host> Node<H> for Holder<'a, C> {
+    ghost use Rattle.store_commands.specs.Serving.{IsReadyToServe};
+    ghost use Rattle.node_life.specs.Requests.{AnswersRequest};
+
+    ghost may = { λ n o. IsReadyToServe (C.meaning n.clients.now) n.store (H.tells o) };
+
+    ghost answers = { λ n request o o' came out ends.
+        AnswersRequest H.tells (C.meaning n.clients.now) request o o' came out ends };
+
+    fn answer(
+        &mut self,
+        words: &[u8],
+        size: InputSize,
+        most: usize,
+        kept: &[u8],
+        host: &mut H,
+        out: &mut MemSink,
+    ) -> Reply {
+        match command_of(self.alloc, words) {
+            Ok(asked) => {
+                let (alloc, hasher) = (self.alloc, self.hasher);
+                let store = &mut self.store;
+                answer_command(
+                    alloc, hasher, store, asked, size, most, kept, host, out, self.clients,
+                )
+            }
+            Err(fault) => nothing_done(Outcome::from(fault)),
+        }
+    }
+}
+
+// Does what a request asks for, of whose input this is what was kept, and says what is answered.
+fn answer_command<H: Host, C: Clients>(
+    alloc: Global,
+    hasher: RandomState,
+    store: &mut Store,
+    asked: Command,
+    size: InputSize,
+    most: usize,
+    kept: &[u8],
+    host: &mut H,
+    out: &mut MemSink,
+    clients: &C,
+) -> Reply
+    requires within { IsCommandWithin asked }
+    requires ready { IsReadyToServe (C.meaning clients.now) store.old (H.tells host.old) }
+    requires empty { out.old.bytes ≡ [] }
+    ensures answers { (request : Request) → KeepsOf request (stage.Whole size most) kept.now
+        → AnswersOr H.tells (C.meaning clients.now) (ReadsGiven request.size request.input) asked
+        host.old host.new (said_by result out.new.bytes) }
+    ensures ready { StaysReady (C.meaning clients.now) store.new (H.tells host.new) result }
+{
+    match size {
+        InputSize::Failed => {
+            let mut input = Failing::new();
+            do_command(alloc, hasher, store, asked, host, &mut input, out, clients)
+        }
+        InputSize::Long => {
+            let mut input = Given::too_long();
+            do_command(alloc, hasher, store, asked, host, &mut input, out, clients)
+        }
+        InputSize::Bytes(_) => {
+            if !is_enough(&asked, most, kept) {
+                return nothing_done(Outcome::Memory);
+            }
+            let mut input = Given::of(kept);
+            do_command(alloc, hasher, store, asked, host, &mut input, out, clients)
+        }
+    }
+}
+
+// Whether this is all of an input of which at most so many bytes were kept, or as much as a command
+// reads of it. A message may have no longer body.
+fn is_enough(asked: &Command, most: usize, kept: &[u8]) -> bool
+    ensures { result ≡ is_enough asked.now most (length kept.now) }
+{
+    kept.len() < most || reads_most(asked) == 0 || (asked.reads_body() && MAX_BODY < most)
+}
+
+// Does what a request asks for, over this input, and says what is answered.
+fn do_command<H: Host, S: Source, C: Clients>(
+    alloc: Global,
+    hasher: RandomState,
+    store: &mut Store,
+    asked: Command,
+    host: &mut H,
+    input: &mut S,
+    out: &mut MemSink,
+    clients: &C,
+) -> Reply
+    requires within { IsCommandWithin asked }
+    requires ready { IsReadyToServe (C.meaning clients.now) store.old (H.tells host.old) }
+    requires empty { out.old.bytes ≡ [] }
+    ensures answers { AnswersAsked H.tells (C.meaning clients.now)
+        (AreStreams (S.tells input.old) (S.tells input.new)) (Do asked) host.old host.new
+        (said_by result out.new.bytes) }
+    ensures ready { StaysReady (C.meaning clients.now) store.new (H.tells host.new) result }
+{
+    match asked {
+        Command::Quit => goodbye(),
+        Command::Sync(_, _, _) | Command::Serve => nothing_done(Outcome::NodeHolds),
+        Command::Try(name, descriptor) => {
+            let (name, descriptor) = (name.as_str(), descriptor.as_str());
+            let ended = try_group(alloc, hasher, name, descriptor, input, out, clients);
+            said(Outcome::of(ended))
+        }
+        Command::Records => said(Outcome::of(list_records(alloc, input, out))),
+        asked => do_on_store(alloc, store, asked, host, input, out, clients),
+    }
+}
+
+// Does what a request asks of the store, once its journal is settled.
+fn do_on_store<H: Host, S: Source, C: Clients>(
+    alloc: Global,
+    store: &mut Store,
+    asked: Command,
+    host: &mut H,
+    input: &mut S,
+    out: &mut MemSink,
+    clients: &C,
+) -> Reply
+    requires within { IsCommandWithin asked }
+    requires done { is_done_by_node asked ≡ true }
+    requires ready { IsReadyToServe (C.meaning clients.now) store.old (H.tells host.old) }
+    requires empty { out.old.bytes ≡ [] }
+    ensures answers { AnswersAsked H.tells (C.meaning clients.now)
+        (AreStreams (S.tells input.old) (S.tells input.new)) (Do asked) host.old host.new
+        (said_by result out.new.bytes) }
+    ensures ready { StaysReady (C.meaning clients.now) store.new (H.tells host.new) result }
+{
+    match migrate_and_settle(store, host, clients) {
+        Ok(()) => said(Outcome::of(obey(alloc, store, asked, host, input, out, clients))),
+        Err(came) => said(came),
+    }
+}
+
+// What is said where nothing was done.
+fn nothing_done(came: Outcome) -> Reply
+    ensures { (out : List ℕ) → said_by result out ≡ bare came }
+{
+    Reply {
+        came,
+        shown: false,
+        ends: false,
+    }
+}
+
+// What is said where the node ends.
+fn goodbye() -> Reply
+    ensures { (out : List ℕ) → said_by result out ≡ goodbye }
+{
+    Reply {
+        came: Outcome::Done,
+        shown: false,
+        ends: true,
+    }
+}
+
+// What is said of a command that came to this: what it printed goes out, unless no memory was found
+// for that, and a fault of the disk ends the node.
+fn said(came: Outcome) -> Reply
+    ensures { (out : List ℕ) → said_by result out ≡ said_of came out }
+{
+    match came {
+        Outcome::WriteFault => nothing_done(Outcome::Memory),
+        Outcome::DiskFault => Reply {
+            came: Outcome::DiskFault,
+            shown: true,
+            ends: true,
+        },
+        came => Reply {
+            came,
+            shown: true,
+            ends: false,
+        },
+    }
+}

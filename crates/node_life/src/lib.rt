@@ -1,0 +1,12 @@
+//! A life of a node: its store is loaded, and the requests of its input are answered over it.
+//!
+//! - `life`: from the load to the end of the input.
+//! - `holder`: the node that holds the store, and what it answers to a request.
+//! - `input`: the input of a request, as its command reads it.
+#![tactic(auto)]
+
+mod holder;
+mod input;
+mod life;
+
+pub use life::serve_requests;

@@ -1,0 +1,4 @@
+pub mod RecordText
+pub mod Input
+pub mod Plays
+pub mod Streams
