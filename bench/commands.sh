@@ -1,7 +1,7 @@
 #!/usr/bin/env bash
 # Times the commands of a store on real files, in a folder of its own on a disk. The store's file is made by
 # oracle/store_file.py, and every text and every file that a command leaves is compared with what that module says.
-# - `post` of a note of 200 bytes to 1, 1,000 and 20,000 messages, in turns with a bare program that makes the same writes
+# - `post` of a note of 200 bytes to 1, 20, 1,000 and 20,000 messages, in turns with a bare program that makes the same writes
 #   and syncs (bench/bare_append.c), with one INSERT by `sqlite3` at synchronous=FULL into a table of as many rows, and with
 #   `body` of an unknown id, which loads the store and refuses: medians of RUNS (9) runs on the clock, each with the start of
 #   its process, each on files written anew and synced.
@@ -9,8 +9,8 @@
 #   out, where `strace` is there.
 # The last lines are `ratio NAME VALUE`: post over each peer, the part of a post that is the load, and the growth over linear.
 cd "$(dirname "$0")/.." || exit 1
-bsp=$PWD/crates/bsp/out/bsp
-.ci/built bsp || exit 1
+bsp=${BSP:-$PWD/crates/bsp/out/bsp}
+[ -x "$bsp" ] || .ci/built bsp || exit 1
 folder=$(mktemp -d) || exit 1
 trap 'rm -rf "$folder"' EXIT
 case $(stat -f -c %T "$folder") in
@@ -165,7 +165,7 @@ if shutil.which('strace'):
     show_pieces('inbox')
 else:
     print('calls and pieces were not seen: strace is not there')
-ratios = [line for count in (1, 1_000, MANY) for line in measure_posts(count)]
+ratios = [line for count in (1, 20, 1_000, MANY) for line in measure_posts(count)]
 ratios += [measure_look('show', show_text), measure_look('inbox', inbox_text)]
 print('\n'.join(ratios))
 PY

@@ -1,9 +1,9 @@
 #!/usr/bin/env bash
 # Mailbox files of COUNT (20,000) notes of 200 bytes: `mailbox in` of a file that has them, into a store that has none, and `mailbox
-# out` of a store that has them. Each is beside a bare program that makes the same writes and syncs (bench/bare_append.c), medians of
-# RUNS (3) runs in turns on the clock, in a folder of its own on a disk. The files, and the bytes that are written, are compared with
-# what the rules say (oracle/store_file.py). The greatest memory of `mailbox in` is beside that of a load of the store that it
-# leaves, its input and one record. The last lines are `ratio NAME VALUE`.
+# out` of a store that has them. Each is beside a bare program that makes the same writes and syncs (bench/bare_append.c), and the
+# first beside `git fetch` of as many commits, medians of RUNS (3) runs in turns on the clock, in a folder of its own on a disk. The
+# files, and the bytes that are written, are compared with what the rules say (oracle/store_file.py). The greatest memory of `mailbox
+# in` is beside that of a load of the store that it leaves, its input and one record. The last lines are `ratio NAME VALUE`.
 cd "$(dirname "$0")/.." || exit 1
 bsp=${BSP:-$PWD/crates/bsp/out/bsp}
 [ -x "$bsp" ] || .ci/built bsp || exit 1
@@ -15,11 +15,11 @@ esac
 cc -O2 -o "$folder/bare_append" bench/bare_append.c || exit 1
 PYTHONDONTWRITEBYTECODE=1 PYTHONPATH=bench:oracle python3 - "$bsp" "$folder" "${RUNS:-3}" "${COUNT:-20000}" <<'PY'
 import os, struct, subprocess, sys, tempfile, time
-from itertools import chain
 from statistics import median
 
-from journal import SEND
-from store_file import GROUP, HEADER, Note, first_batches, frame, framed, steps, together
+from commits import fetch, make_commits
+from journal import SEND, joined
+from store_file import GROUP, HEADER, Note, first_batches, framed, steps, together
 
 bsp, folder, runs, count = *sys.argv[1:3], int(sys.argv[3]), int(sys.argv[4])
 SIZE, LATENCY, RECORD, UNKNOWN = 200, 1_000, 49_156, '0' * 64
@@ -46,19 +46,19 @@ def record(note):
 
 
 def takes():
-    """The batches of a file that is read, by the groups in which they are written: each record's with the settling of its message."""
-    yield begins(1),
-    yield struct.pack('>BIQ', 5, 0, 0),
+    """The batches of a file that is read: its session, and each record's with the settling of its message."""
+    yield begins(1)
+    yield struct.pack('>BIQ', 5, 0, 0)
     for number, note in enumerate(notes):
-        taken = struct.pack('>BIQ', 5, 0, number + 1) + b'\7' + struct.pack('>I', 0) + note.said()[1:]
-        yield taken, steps(struct.pack('>I', number))
+        yield struct.pack('>BIQ', 5, 0, number + 1) + b'\7' + struct.pack('>I', 0) + note.said()[1:]
+        yield steps(struct.pack('>I', number))
 
 
 def sends(now):
-    """The batches of a file that is written at this time, each a group."""
-    yield begins(LATENCY),
+    """The batches of a file that is written at this time."""
+    yield begins(LATENCY)
     for number in range(count):
-        yield struct.pack('>BIQBI', 15, 0, now, SEND, number),
+        yield struct.pack('>BIQBI', 15, 0, now, SEND, number)
 
 
 def put(content):
@@ -90,7 +90,7 @@ def timed(before, words, given=b''):
 
 def read():
     clock, told = timed(EMPTY, (bsp, 'mailbox', 'in', '0'), sent)
-    expect(told == b'taken %d\n' % (count + 1) and left() == framed(HEADER, [*first_batches(), *chain(*takes())]), 'mailbox in')
+    expect(told == b'taken %d\n' % (count + 1) and left() == framed(HEADER, [*first_batches(), *takes()]), 'mailbox in')
     return clock
 
 
@@ -98,14 +98,14 @@ def write():
     clock, told = timed(FULL, (bsp, 'mailbox', 'out', '0', str(LATENCY), '1000000'))
     came = left()
     now, = struct.unpack_from('>Q', came, len(FULL) - 1 + 5 + len(begins(LATENCY)) + 5 + 5)
-    expect(told == sent and came == FULL[:-1] + b''.join(b'\1' + frame(it)[:-1] for it in chain(*sends(now))) + b'\0', 'mailbox out')
+    expect(told == sent and came == FULL[:-1] + framed(b'', sends(now)), 'mailbox out')
     return clock
 
 
-def bare(before, groups):
-    groups = list(groups)
-    clock, _ = timed(before, (os.path.join(folder, 'bare_append'), 'bsp.0', 'bsp.1'), b''.join(map(together, groups)))
-    expect(left() == before[:-1] + b''.join(b'\1' + frame(it)[:-1] for it in chain(*groups)) + b'\0', 'the bare program')
+def bare(before, batches):
+    batches = list(batches)
+    clock, _ = timed(before, (os.path.join(folder, 'bare_append'), 'bsp.0', 'bsp.1'), b''.join(map(together, joined(batches))))
+    expect(left() == before[:-1] + framed(b'', batches), 'the bare program')
     return clock
 
 
@@ -120,17 +120,21 @@ EMPTY = framed(HEADER, first_batches())
 FULL = framed(HEADER, [*first_batches(), *(it for number, note in enumerate(notes) for it in note.batches(number))])
 sent = VERSIONS + b''.join(map(record, notes))
 
-kinds = {'in': read, 'in_bare': lambda: bare(EMPTY, takes()), 'out': write, 'out_bare': lambda: bare(FULL, sends(1))}
+commits = make_commits(folder, notes)
+
+kinds = {'in': read, 'in_bare': lambda: bare(EMPTY, takes()), 'git': lambda: fetch(folder, commits),
+         'out': write, 'out_bare': lambda: bare(FULL, sends(1))}
 clocks = {kind: [] for kind in kinds}
 for _ in range(runs):
     for kind, call in kinds.items():
         clocks[kind].append(call())
 middle = {kind: median(its) for kind, its in clocks.items()}
 print(f'{count} notes of {SIZE} bytes: ' + ', '.join(f'{kind} {seconds:.2f} s' for kind, seconds in middle.items()))
-whole = framed(HEADER, [*first_batches(), *chain(*takes())])
+whole = framed(HEADER, [*first_batches(), *takes()])
 load, most = peak(whole, bsp, 'body', UNKNOWN), peak(EMPTY, bsp, 'mailbox', 'in', '0', given=sent)
 print(f'greatest memory: in {most / 1e6:.1f} MB, load {load / 1e6:.1f} MB, input {len(sent) / 1e6:.1f} MB')
 for kind in ('in', 'out'):
     print(f'ratio mailbox_{kind} {middle[kind] / middle[kind + "_bare"]:.2f}')
+print(f'ratio mailbox_in_git {middle["in"] / middle["git"]:.2f}')
 print(f'ratio mailbox_in_memory {most / (load + len(sent) + RECORD):.2f}')
 PY

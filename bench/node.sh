@@ -15,8 +15,8 @@ import os, struct, sys
 
 from journal import ACKS, SEND, frames
 from measure import least, run
-from run_model import ACK, VERSIONS, message_record, record_bytes
-from store_file import GROUP, Note, file_bytes, frame, steps
+from run_model import ACK, MAX_OUTS, VERSIONS, message_record, record_bytes
+from store_file import GROUP, Note, file_bytes, steps, together
 
 bsp, folder, runs, few, many = *sys.argv[1:3], *map(int, sys.argv[3:])
 SIZE, LATENCY = 200, 600_000
@@ -66,6 +66,16 @@ class Way:
     def added(self):
         return [payload for at, payload in frames(self.left) if at >= len(self.before) - 1]
 
+    def groups(self):
+        """The batches that were added, as they were added: the session, what a piece brought, and the outputs of a turn."""
+        groups = []
+        for payload in self.added():
+            kind = payload[0] if payload[0] in (4, 15) else 5
+            if not groups or groups[-1][0] != kind or kind == 4 or kind == 15 and len(groups[-1][1]) == MAX_OUTS:
+                groups.append((kind, []))
+            groups[-1][1].append(payload)
+        return [payloads for _, payloads in groups]
+
     def check(self, sent):
         """The batches that were added, and what was sent: behind what was heard, acknowledgements in order."""
         outs = [payload for payload in self.added() if payload[0] == 15]
@@ -93,7 +103,7 @@ class Way:
     def bare(self):
         """The same writes and syncs."""
         put(STORE, self.before)
-        put(SENT + '.in', b''.join(map(frame, self.added())))
+        put(SENT + '.in', b''.join(map(together, self.groups())))
         with open(SENT + '.in', 'rb') as source:
             told = run(os.path.join(folder, 'bare_append'), 'bsp.0', 'bsp.1', source=source, folder=folder)
         expect(content_of(STORE) == self.left, 'the bare program')

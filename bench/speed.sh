@@ -31,11 +31,12 @@ ROWS = [
     Row('store', 'store.sh', 'a load of 8,000 messages of 32,000 bytes, over `b2sum -l 256` of their file; of 200,000 of 200 bytes, over '
         'computing their ids alone, with no contact and with one; bytes of memory beside a held body, with no contact and with one',
         '{load_large:.2f}; {load_small:.2f}, {load_small_shared:.2f}; {memory_held:.0f}, {memory_held_shared:.0f}', '1: the digest; 1: the ids; the id, 32'),
-    Row('commands', 'commands.sh', 'a `post` of 200 bytes behind 1, 1,000 and 20,000 messages, over a bare program with the same writes '
+    Row('commands', 'commands.sh', 'a `post` of 200 bytes behind 1, 20, 1,000 and 20,000 messages, over a bare program with the same writes '
         'and syncs; over one INSERT by SQLite at synchronous=FULL into as many rows; the part of it that is the load',
-        '{post_1_bare:.1f}, {post_1000_bare:.1f}, {post_20000_bare:.1f}; {post_1_sqlite:.1f}, {post_1000_sqlite:.1f}, '
-        '{post_20000_sqlite:.1f}; {load_of_post_1:.2f}, {load_of_post_1000:.2f}, {load_of_post_20000:.2f}',
-        f'{BARE}; these over SQLite {{post_1_sqlite / post_1_bare:.1f}}, {{post_1000_sqlite / post_1000_bare:.1f}}, '
+        '{post_1_bare:.1f}, {post_20_bare:.1f}, {post_1000_bare:.1f}, {post_20000_bare:.1f}; '
+        '{post_1_sqlite:.1f}, {post_20_sqlite:.1f}, {post_1000_sqlite:.1f}, {post_20000_sqlite:.1f}; '
+        '{load_of_post_1:.2f}, {load_of_post_20:.2f}, {load_of_post_1000:.2f}, {load_of_post_20000:.2f}',
+        f'{BARE}; these over SQLite {{post_1_sqlite / post_1_bare:.1f}}, {{post_20_sqlite / post_20_bare:.1f}}, {{post_1000_sqlite / post_1000_bare:.1f}}, '
         '{post_20000_sqlite / post_20000_bare:.1f}'),
     Row('serve', 'serve.sh', 'of a node that serves: a `post` of 200 bytes behind 20,000 and behind 200,000 messages over one INSERT by SQLite '
         'in one process at synchronous=FULL into as many rows; over the two writes and syncs of such a post alone; 100,000 `body` behind 100,000 '
@@ -52,14 +53,18 @@ ROWS = [
         'memory, of the processor, over a bare program with the same writes and syncs and a load of what is left', '{hear:.2f}, {send:.2f}',
         '1: the writes of each batch, and the digest and the state of each message'),
     Row('sync', 'sync.sh', '20,000 notes of 200 bytes, and 2,000 of 32,000, from one store to another over a socket, over a bare program '
-        'with the same writes and syncs; over `git fetch` of as many commits',
-        '{sync_small_bare:.2f}, {sync_large_bare:.2f}; {sync_small_git:.1f}, {sync_large_git:.1f}',
-        f'{BARE}; these over git {{sync_small_git / sync_small_bare:.1f}}, {{sync_large_git / sync_large_bare:.1f}}'),
+        'with as many writes and syncs; over `git fetch` of as many commits; the same where syncs are left out on both sides; messages '
+        'for each sync of the side that hears, and of the one that says',
+        '{sync_small_bare:.2f}, {sync_large_bare:.2f}; {sync_small_git:.1f}, {sync_large_git:.1f}; {sync_small_git_unsynced:.2f}, '
+        '{sync_large_git_unsynced:.2f}; {sync_small_hears:.1f}, {sync_large_hears:.1f}; {sync_small_says:.1f}, {sync_large_says:.1f}',
+        f'1: the writes and syncs; these over git {{sync_small_git / sync_small_bare:.1f}}, {{sync_large_git / sync_large_bare:.1f}}; '
+        'the digest and the state of each message; 32: 64 outputs a turn, in two syncs'),
     Row('edge', 'edge.sh', 'a `body` behind 200,000 messages in real files, over their load from memory; reads of a `show` of 20,000 '
         'messages over the pieces of 32 KiB in their file', '{files_over_memory:.2f}; {show_reads:.2f}', '1: the load; 1 is the most that is allowed'),
     Row('mailbox', 'mailbox.sh', 'a mailbox file of 20,000 notes of 200 bytes read into a store, and one written from it, over a bare program '
-        'with the same writes and syncs; the memory of the reading over that of a load of the store that it leaves, the file and one record',
-        '{mailbox_in:.2f}, {mailbox_out:.2f}; {mailbox_in_memory:.2f}', f'{BARE}; none'),
+        'with the same writes and syncs; the reading over `git fetch` of as many commits; the memory of the reading over that of a load of '
+        'the store that it leaves, the file and one record',
+        '{mailbox_in:.2f}, {mailbox_out:.2f}; {mailbox_in_git:.2f}; {mailbox_in_memory:.2f}', '1: the writes and syncs; none; none'),
     Row('quicker', 'quicker.sh', '20,000 notes of 200 bytes that a letter lost, sent and offered by `sync` over a quicker way, over the same of '
         'a store in which nothing was tried, each less a load of its store; and as a whole; a turn with nothing due over 100,000 notes that '
         'wait, over one over 100; an audit of 20,000 such tries, of as many by two ways that take turns of 64, and of 5,000 by two with one '

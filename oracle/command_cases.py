@@ -36,10 +36,11 @@ import sys
 from audits import Audited, rows as audit_rows
 from digests import group_id, message_id
 from help_texts import texts_of
-from journal import SHORT, WHOLE, frames, gathered, groups_of, respelled
+from journal import MOST_BATCHES, SHORT, WHOLE, frames, gathered, groups_of, respelled
 from migration import migrated
 from old_stores import NOTES, SCENES as OLD_SCENES, THREADS, adds_contact, bare, facts_of, fresh, heard, held, looks_at, show_text, spoken
-from run_model import BATCH, Journal, Store, VISIBLE, calls_of_clear, crossed, message_record, record_bytes
+from run_model import ACK, BATCH, OFFER, SHARED, VERSIONS, VISIBLE, Journal, Mail, Store, calls_of_clear, crossed, expanded, message_record
+from run_model import record_bytes
 from served import GREETING, NO_REQUEST, begun as begun_node, drawn as drawn_life, fronts_of, looked_at, spelled as spelled_request
 from served import states_at, stopped as stopped_life, text_of, texts_at
 from sharing import ALL_CLIENTS, NOTE, SCENES as SHARING_SCENES, SEEDS, THREAD, Person, agrees_at_length, agrees_at_random
@@ -53,7 +54,7 @@ NO_STORE, EXISTS, DAMAGED, DISK_FAULT, READ_FAULT, WRITE_FAULT = 2, 3, 5, 6, 8, 
 # read as open, by what a crash leaves of what was not synced; and with no crash
 OPENED = {'old': 4, 'new': 2, 'zero': 4, 'ones': 2, 'left': 3}
 APPEND = 4
-VERSION = texts_of('bsp')['version'].split()[1]
+PROGRAM = texts_of('bsp')['version'].split()[1]
 # the most bytes of an output that go into one call, and the parts in which an input comes
 PIECE = 7
 # what a node does otherwise than the command by itself
@@ -74,10 +75,6 @@ def told_output(data):
         except UnicodeDecodeError:
             pass
     return ['bytes ' + told_bytes(data)] if data else []
-
-
-def expanded(text):
-    return re.sub(r'\{([^*]*)\*(\d+)\}', lambda of: of[1] * int(of[2]), text)
 
 
 def unhex(digits):
@@ -588,6 +585,91 @@ def play_settled(text):
     text.count()
 
 
+# ---- mailbox files
+
+VERSION = record_bytes(VERSIONS, b'\0')
+
+
+def mail_of(person, words, given):
+    """What a mailbox file comes to over a person's store, which it changes."""
+    kind, contact, *rest = words.split()[1:]
+    before = list(person.batches)
+    mail = Mail(person.store, int(contact))
+    status, err, out = mail.read(given) if kind == 'in' else mail.write(0, *map(int, rest))
+    after = framed(header(SHORT, 1), person.batches)
+    return Outcome(out, status, err.encode(), [(0, after)]), person.batches[len(before):]
+
+
+def friend():
+    """A store with two notes, which a contact is to have."""
+    person = bare(NOTE)
+    person.share(0, NOTES, SHARED)
+    for time in (5, 6):
+        person.post(NOTES, time, b'mine')
+    return person
+
+
+def play_mail(text):
+    """Mailbox files of which each call fails: all that is taken or sent is there, with the session, or nothing."""
+    note = lambda time: message_record(NOTES, time, b'theirs')
+    whole = [VERSION, note(1), record_bytes(ACK, message_id(NOTES, 5, b'mine')), note(2), record_bytes(OFFER, bytes(32)), note(1)]
+    for name, words, given in (
+            ('a whole one', 'mailbox in 0', b''.join(whole)),
+            ('with what is no record in its middle', 'mailbox in 0', b''.join([*whole, b'\1', note(3)])),
+            ('that ends inside a record', 'mailbox in 0', b''.join([*whole, note(3)[:-1]])),
+            ('of another version', 'mailbox in 0', b''.join([*whole[:2], record_bytes(VERSIONS, b'\1'), note(3)])),
+            ('that is empty', 'mailbox in 0', b''),
+            ('that is written', 'mailbox out 0 1000 10', b''),
+            ('that is written, and has not all', 'mailbox out 0 1000 1', b'')):
+        person = friend()
+        before = list(person.batches)
+        outcome, adds = mail_of(person, words, given)
+        text.case('a mailbox file that fails, ' + name)
+        text.journal(SHORT, 1, before)
+        play_scene(text, words, True, before, given, outcome, adds)
+    play_old_mail(text)
+    play_long_mail(text)
+
+
+def play_old_mail(text):
+    """Before a file is read into a store of format 1 the journal is written anew and settled."""
+    person = heard()
+    before = list(person.batches)
+    given = VERSION + message_record(NOTES, 9, b'new')
+    person.store.settle()
+    outcome, _ = mail_of(person, 'mailbox in 0', given)
+    adds = person.batches[len(before):]
+    old = list(respelled(before, SHORT, WHOLE))
+    text.case('a store of format 1 into which a mailbox file is read')
+    text.journal(WHOLE, 1, old)
+    outcome.after = {1: framed(header(SHORT, 2), before + adds)}
+    play_old_crashes(text, 'mailbox in 0', ['input ' + given.hex()], outcome, before, adds, old)
+
+
+def play_long_mail(text):
+    """Files whose batches are more than a group has, and whose frames are longer than one is."""
+    long = b'x' * 32_768
+    for name, spelled in (('of more records than a group has batches', '{%s*%d}' % (VERSION.hex(), MOST_BATCHES + 100)),
+                          ('of more bytes than a group has', ''.join('%s{78*32768}' % message_record(NOTES, time, long)[:44].hex() for time in range(33)))):
+        person = friend()
+        before = list(person.batches)
+        outcome, adds = mail_of(person, 'mailbox in 0', unhex(spelled))
+        groups = gathered(adds)
+        assert len(groups) == 2
+        text.case('a mailbox file ' + name)
+        text.journal(SHORT, 1, before)
+        # a load syncs both files, reads two headers and the length, each frame by two calls, and the closed gate
+        load = 2 + 2 + 1 + 2 * len(before) + 1
+        stood = framed(header(SHORT, 1), before)
+        for number, group in enumerate(groups):
+            behind = stood[:-1] + framed(b'', group)
+            for call, left in enumerate((stood, stood + behind[len(stood):], stood + behind[len(stood):], behind)):
+                fault = Outcome(status=DISK_FAULT, err=b'disk fault\n', after=[(0, left)])
+                text.tell('try', 'mailbox in 0', fault, 'input ' + spelled, f'faildisk {load + APPEND * number + call}')
+            stood = behind
+        text.tell('try', 'mailbox in 0', outcome, 'input ' + spelled)
+
+
 WAITING = 599
 
 
@@ -685,7 +767,7 @@ def status_text(spelled, generation, payloads):
     end = len(framed(header(spelled, generation), payloads))
     free = LEFT - end - ROOM[spelled] * (2 * states.count('unknown') + states.count('pending'))
     counts = f'held {len(states)} delivered {len(facts.delivered)} sessions {facts.begun}\n'
-    return f'{counts}journal {end} free {free}\nversion {VERSION}\n'.encode()
+    return f'{counts}journal {end} free {free}\nversion {PROGRAM}\n'.encode()
 
 
 def play_status(text, names):
@@ -866,6 +948,7 @@ def made():
     play_migrated(text)
     play_taken_back(text)
     play_settled(text)
+    play_mail(text)
     play_cascade(text)
     play_tries(text)
     play_audits(text)

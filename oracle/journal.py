@@ -44,21 +44,42 @@ def groups_of(content):
     return groups
 
 
-# how many bytes the longest frame takes
-LONGEST = 5 + 65_536
+# how many bytes the longest frame takes, and how many batches wait at most
+LONGEST, MOST_BATCHES = 5 + 65_536, 4_096
 # with which byte a payload of steps begins
 STEPS = (8, 9, 10)
 
 
-def gathered(payloads):
-    """The groups in which a command adds these: steps join what is before them, unless the longest frame would find no room behind it."""
-    groups, size = [], 0
+class Group:
+    """Payloads that wait to be added together."""
+
+    def __init__(self):
+        self.payloads, self.size = [], 0
+
+    def finds_room(self):
+        """Whether one more joins them: the longest frame would find room behind them."""
+        return len(self.payloads) < MOST_BATCHES and self.size + LONGEST <= GROUP
+
+    def add(self, payload):
+        self.payloads.append(payload)
+        self.size += 5 + len(payload)
+
+
+def joined(payloads):
+    """The groups in which these are added, where each joins those before it while it finds room."""
+    groups = []
     for payload in payloads:
-        if not groups or payload[0] not in STEPS or size + LONGEST > GROUP:
-            groups, size = groups + [[]], 0
-        groups[-1].append(payload)
-        size += 5 + len(payload)
-    return groups
+        if not groups or not groups[-1].finds_room():
+            groups.append(Group())
+        groups[-1].add(payload)
+    return [group.payloads for group in groups]
+
+
+def gathered(payloads):
+    """The groups in which a command adds these: the settling of a journal that was loaded stands by itself."""
+    payloads = list(payloads)
+    steps = next((place for place, payload in enumerate(payloads) if payload[0] not in STEPS), len(payloads))
+    return joined(payloads[:steps]) + joined(payloads[steps:])
 
 
 def journal_of(content):

@@ -1,6 +1,7 @@
 #!/usr/bin/env python3
 """Writes the cases of crates/test_runs: `run_cases.py >stdin`, and `run_model.py stdin >stdout` is what they must print.
 The named ones come first; then some that are drawn, the same each time."""
+import io
 import random
 
 from digests import group_id, message_id
@@ -8,7 +9,7 @@ from journal import SHORT, WHOLE, respelled
 from old_stores import bare, heard
 from sharing import NOTE
 from store_file import framed, header
-from run_model import IDLE, Node, PIECE, SHARED, entry_bytes, record_bytes
+from run_model import Cases, IDLE, Node, PIECE, SHARED, entry_bytes, expanded, record_bytes
 
 NOTES, THREADS, FEEDS, CYCLE = (group_id(name, 0, b'd') for name in (b'note', b'thread', b'feed', b'cycle'))
 ROW_8 = '0004000100 00090002aabb 00050010000102030405060708090a0b0c0d0e0f'.replace(' ', '')
@@ -539,6 +540,89 @@ def failing_links():
         say('failsend %d' % send, 'end 0 1', 'end 1 1', TWO_LINKS)
 
 
+# ---- what comes or goes together
+
+VERSION = record_bytes(4, b'\0')
+
+
+def note(time, text=b'theirs'):
+    return message(NOTES, time, text)
+
+
+def friend(contacts_=1):
+    """A store with two notes of ours, in a group that is shared with so many contacts."""
+    person = bare(NOTE)
+    for contact in range(1, contacts_):
+        person.add_contact()
+    for contact in range(contacts_):
+        person.share(contact, NOTES, SHARED)
+    for time in (5, 6):
+        person.post(NOTES, time, b'mine')
+    return person
+
+
+def each_call(name, person, groups, *lines):
+    """A run of which each call of the disk fails in turn, of so many groups, and then none: what was sent by then."""
+    case('each call of the disk fails: ' + name)
+    file = framed(header(SHORT, 1), person.batches)
+    whole = Cases(io.StringIO())
+    for line in ('old ' + file.hex(), *lines):
+        whole.line(expanded(line))
+    assert len(whole.store.groups) == groups, (name, len(whole.store.groups))
+    # a load syncs both files, reads two headers and the length, each frame by two calls, and the closed gate
+    load = 2 + 2 + 1 + 2 * len(person.batches) + 1
+    for call in range(load, load + 4 * groups + 1):
+        say('old ' + file.hex(), *lines[:-1], 'faildisk %d' % call, lines[-1])
+
+
+def together():
+    mine = [message_id(NOTES, time, b'mine') for time in (5, 6)]
+    piece = [VERSION, note(1), ids_record(0, mine[:1]), note(2), note(1), ids_record(2, some_ids(0, 2))]
+    one = 'sync 3 1 0 batch 1000 std'
+    got = lambda link, *records: 'got %d %s' % (link, b''.join(records).hex())
+    many = lambda count, *records: 'got 0 {%s*%d}%s' % (VERSION.hex(), count, b''.join(records).hex())
+    # the session, what is heard, what is sent
+    each_call('a piece of six records, two of which are acknowledged and one answered', friend(), 3, got(0, *piece), 'end 0 1', one)
+    each_call('the same on an interactive link', friend(), 5, 'nonce ' + '07' * 16, got(0, *piece), got(0, ids_record(3, mine)), 'idle 0 2',
+              'sync 2 1 0 interactive 1000 tcp:x')
+    each_call('a bad record among others', friend(), 2, got(0, *piece, b'\1', note(3)), 'end 0 1', one)
+    each_call('a VERSIONS without 0 among others', friend(), 2, got(0, *piece, record_bytes(4, b'\1'), note(3)), 'end 0 1', one)
+    each_call('a peer that is gone', friend(), 3, got(0, *piece, note(3)[:-1]), 'fail 0 1', one)
+    each_call('a peer that ends inside a record', friend(), 3, got(0, *piece, note(3)[:-1]), 'end 0 1', one)
+    each_call('the records end in the second piece', friend(), 5, got(0, *piece, note(3)[:9]), got(0, note(3)[9:], note(4)), 'end 0 1', one)
+    each_call('two links, of which each hears and sends', friend(2), 6, *(got(link, *piece) for link in range(2)), *('end %d 1' % link for link in range(2)),
+              'sync 3 1 0 batch 1000 std 1 batch 1000 listen:x')
+    each_call('a send that fails', friend(), 3, got(0, *piece), 'failsend 1', 'end 0 1', one)
+    each_call('more records than a group has batches', friend(), 4, many(4_097), 'end 0 1', 'sync 1 1 0 batch 1000 std')
+
+    for mode in ('batch', 'interactive'):
+        case('a send of five records fails, and what it had is due again: ' + mode)
+        one_contact()
+        ids = [post(NOTES, n, b'%d' % n) for n in range(5)]
+        say('got 0 ' + ids_record(3, ids).hex(), 'failsend 1', 'idle 0 9', 'clock 1000', 'sync 3 2 0 %s 1000 listen:x' % mode)
+        for now in (1000, 2999, 3000):
+            say('idle 0 9', 'clock %d' % now, 'sync 3 2 0 %s 1000 listen:x' % mode)
+    for send in (1, 2, 3):
+        case('70 messages are due, and send %d fails' % send)
+        one_contact()
+        for n in range(70):
+            post(NOTES, n, b'%d' % n)
+        say('idle 0 9', 'failsend %d' % send, 'sync 3 1 0 batch 1000 std', 'idle 0 9', 'clock 3000', 'sync 9 2 0 batch 1000 std')
+
+    case('a run that hears many records at once and sends many is stopped')
+    one_contact()
+    for n in range(4):
+        post(NOTES, n, b'mine')
+    say(got(0, *piece, *(note(9 + n) for n in range(9))), 'idle 0 1', got(0, note(30), note(31), b'\1', note(32)), 'stops ' + one)
+    case('a run that hears more records than a group has batches is stopped')
+    one_contact()
+    say(many(4_090, *(note(n) for n in range(9))), 'stops sync 1 1 0 batch 1000 std')
+    case('two runs of records whose last is cut by the piece')
+    one_contact()
+    heads = [note(n, b'x' * 20_000)[:44].hex() for n in range(4)]
+    say('got 0 ' + ''.join(head + '{78*20000}' for head in heads), 'end 0 1', 'sync 5 1 0 batch 1000 std', 'states')
+
+
 # ---- what ends a stream
 
 REFUSED = ['01', '0000c001', '00000000', '00000021', '00010028', '00018029', '00040000', '0004000b', '0005000f',
@@ -1022,6 +1106,7 @@ def main():
     crossed()
     stopped()
     failing_links()
+    together()
     endings()
     old_stores()
     for seed in range(40):

@@ -8,10 +8,11 @@ print. What a case is stands in crates/test_runs/src/main.rt."""
 import collections
 import copy
 import hashlib
+import re
 import sys
 
 from digests import group_id, message_id
-from journal import SHORT, WHOLE, entries, entry_of, format_of, frames, gathered, groups_of, is_spelled, number, respelled
+from journal import SHORT, WHOLE, Group, entries, entry_of, format_of, frames, gathered, groups_of, is_spelled, number, respelled
 from store_file import CLOSED, HEADER, OPEN, framed, header
 
 MAX64 = 2**64 - 1
@@ -495,14 +496,22 @@ def calls_of_clear(content):
     return 2 + 2 * (content[:1] in (b'', OPEN)) + 2 * (len(content) > 1)
 
 
+class DiskFault(Exception):
+    """The call of the disk that was to fail was made."""
+
+
 class Store:
     # the file of format 2 that a journal of format 1 is to be written anew into
     anew = None
+    # how many calls of the disk were made, and which of them is to fail
+    calls, failing = 0, None
 
     def __init__(self, clients=CLIENTS):
         self.journal = Journal(clients)
         # both files, and the number of the one that has the journal
         self.files, self.at = [HEADER + CLOSED, b''], 0
+        # what waits to be added, and the payloads of each group that was
+        self.waiting, self.groups = Group(), []
 
     def read(self, content):
         """The store of a file of either format, and an empty one."""
@@ -559,21 +568,61 @@ class Store:
     def spelled(self, batch):
         return b''.join(entry_bytes(e, self.journal.name) for e in batch)
 
-    def write(self, batch):
-        payload = self.spelled(batch)
-        self.files[self.at] = self.files[self.at][:-1] + OPEN + len(payload).to_bytes(4, 'big') + payload + CLOSED
+    # ---- batches are added in groups
+    def wait(self, batch):
+        """A batch joins those that wait; where it finds no room behind them they are added first."""
+        if not self.waiting.finds_room():
+            self.flush()
+        self.waiting.add(self.spelled(batch))
 
-    def commit(self, batch):
-        self.write(batch)
+    def flush(self):
+        """Those that wait are added, none of them or all at each moment."""
+        group, self.waiting = self.waiting.payloads, Group()
+        if group:
+            self.append(group)
+            self.groups.append(group)
+
+    def call(self):
+        self.calls += 1
+        if self.failing == self.calls - 1:
+            raise DiskFault
+
+    def append(self, group):
+        """Four calls of the disk: behind the closed gate all is written, and synced; then the gate is, and synced."""
+        stood, added = self.files[self.at], framed(b'', group)
+        self.call()
+        self.files[self.at] = stood + added[1:]
+        self.call()
+        self.call()
+        self.files[self.at] = stood[:-1] + added
+        self.call()
+
+    def load(self, failing):
+        """A load of a journal of format 2, of which no call fails: both files are synced, two headers and the length are read, and
+        each frame by two calls, and the closed gate."""
+        assert not self.anew
+        self.calls, self.failing = 2 + 2 + 1 + 2 * len(list(frames(self.files[self.at]))) + 1, failing
+        assert failing is None or failing >= self.calls
+
+    def gather(self, batch):
+        self.wait(batch)
         for entry in batch:
             self.journal.apply(entry)
 
-    def settle(self):
+    def gather_settling(self):
         for batch in self.journal.settling():
-            self.write(batch)
+            self.wait(batch)
+
+    def commit(self, batch):
+        self.gather(batch)
+        self.flush()
+
+    def settle(self):
+        self.gather_settling()
+        self.flush()
 
     def extend(self, batch):
-        self.commit(batch)
+        self.gather(batch)
         self.settle()
 
 
@@ -646,8 +695,8 @@ class Run:
     def take(self, link, record, place):
         j = self.store.journal
         s = link.session
-        self.store.commit([('take', s, j.takes.get(s, 0))] + j.taken(s, record))
-        self.store.settle()
+        self.store.gather([('take', s, j.takes.get(s, 0))] + j.taken(s, record))
+        self.store.gather_settling()
         if record[0] == 'priority' and link.nonce is None:
             link.nonce = record[1]
         if record[0] == 'versions' and 0 not in record[1]:
@@ -686,30 +735,31 @@ class Run:
                 script.insert(0, ('got', answer[1][PIECE:]))
             link.rest += answer[1][:PIECE]
             self.items(link)
+            self.store.flush()
         return False
 
     def put(self, i, link):
-        now, made = self.host.now(), 0
-        while made < MAX_OUTS and link.stands in ('going', 'clean') and self.put_one(i, link, now):
-            made += 1
-        return made
+        """How many outputs were due. They are added together, and then sent in one call."""
+        now, records = self.host.now(), []
+        while len(records) < MAX_OUTS and link.stands in ('going', 'clean') and (bytes_ := self.put_one(link, now)):
+            records.append(bytes_)
+        self.store.flush()
+        if records and not self.send(i, b''.join(records)):
+            link.stands = 'failed'
+        return len(records)
 
-    def put_one(self, i, link, now):
-        """Whether something was due."""
+    def put_one(self, link, now):
+        """The record of what is due, which is gathered; None where nothing is."""
         j = self.store.journal
         due = j.due(link.session, now)
         if not due:
-            return False
+            return None
         what, ids = due
+        self.store.gather([('out', link.session, now, what, ids)])
         if what == 'send':
             h = j.find(ids[0])
-            bytes_ = message_record(h.group, h.timestamp, h.body)
-        else:
-            bytes_ = record_bytes({'acks': ACK, 'requests': REQUEST, 'offers': OFFER}[what], b''.join(ids))
-        self.store.commit([('out', link.session, now, what, ids)])
-        if not self.send(i, bytes_):
-            link.stands = 'failed'
-        return True
+            return message_record(h.group, h.timestamp, h.body)
+        return record_bytes({'acks': ACK, 'requests': REQUEST, 'offers': OFFER}[what], b''.join(ids))
 
     def close_redundant(self):
         for contact in range(256):
@@ -756,6 +806,41 @@ class Run:
         bad = next((line for line in lines if line not in ('clean', 'quiet', 'redundant')), None)
         status = 0 if bad is None else 7 if bad == 'failed' else 11 if bad == 'unfinished' else 9
         return status, ''.join('link %d: %s\n' % (i, line) for i, line in enumerate(lines))
+
+
+# ---- mailbox files
+
+class Mail(Run):
+    """A mailbox file from or for a contact: its session and all its records, or all its outputs, are added together."""
+
+    def __init__(self, store, contact):
+        super().__init__(store, Host(), 0, 0, [])
+        self.contact = contact
+
+    def begin(self, latency):
+        session = self.store.journal.begun
+        self.store.gather([('session', session, self.contact, BATCH, latency, None)])
+        return Link(session, None)
+
+    def read(self, content):
+        """The status, the line on the error output, and the text."""
+        link = self.begin(1)
+        link.rest = content
+        self.items(link)
+        self.store.flush()
+        if link.stands == 'going':
+            link.stands = 'ended inside a record at %d' % link.place if link.rest else 'clean'
+        taken = self.store.journal.takes.get(link.session, 0)
+        status, err = (0, '') if link.stands == 'clean' else (9, link.stands + '\n')
+        return status, err, b'taken %d\n' % taken
+
+    def write(self, now, latency, count):
+        """The same; the text is the file."""
+        link, records = self.begin(latency), [record_bytes(VERSIONS, b'\0')]
+        while len(records) <= count and (bytes_ := self.put_one(link, now)):
+            records.append(bytes_)
+        self.store.flush()
+        return 0, '', b''.join(records)
 
 
 # ---- a node that is told each call
@@ -812,8 +897,9 @@ class Node(Run):
         return self.hear(number, self.links[number])
 
     def hears(self, number, record):
-        """Takes a record that is whole."""
+        """Takes a record that is whole, and came by itself."""
         self.take(self.links[number], read_one(record)[0], 0)
+        self.store.flush()
 
     def takes_on(self, number):
         return self.journal.takes.get(self.links[number].session, 0)
@@ -845,6 +931,8 @@ class Cases:
 
     def begin(self):
         self.store, self.host, self.input = Store(), Host(), b''
+        # the call of the disk that is to fail in the next run
+        self.failing = None
         # the store as it would be had it not been compacted
         self.twin = None
 
@@ -884,6 +972,8 @@ class Cases:
             self.host.nonces.append(bytes.fromhex(words[1]))
         elif kind == 'faildial':
             self.host.failing_dials.add(int(words[1]))
+        elif kind == 'faildisk':
+            self.failing = int(words[1])
         elif kind == 'failsend':
             self.host.failing_sends.add(int(words[1]))
         elif kind == 'sync':
@@ -914,38 +1004,14 @@ class Cases:
             status, err, text = 10, 'full\n', b''
             if self.store.migrate():
                 self.store.settle()
-                run = Run(self.store, self.host, 1, 1, [])
-                status, err, text = self.read_mail(run, words) if words[1] == 'in' else self.write_mail(run, words)
+                mail = Mail(self.store, int(words[2]))
+                status, err, text = mail.read(self.input) if words[1] == 'in' else mail.write(self.host.now(), *map(int, words[3:]))
         print('status %d' % status, file=self.out)
         self.out.write(err)
         print('out %s' % short(text), file=self.out)
         for name, content in zip(('file', 'other'), self.store.files):
             print(name, short(content), file=self.out)
         self.host, self.input, self.twin = Host(), b'', None
-
-    def begin_mail(self, words, latency):
-        session = self.store.journal.begun
-        self.store.commit([('session', session, int(words[2]), 'batch', latency, None)])
-        return session
-
-    def read_mail(self, run, words):
-        link = Link(self.begin_mail(words, 1), None)
-        link.rest = self.input
-        run.items(link)
-        if link.stands == 'going':
-            link.stands = 'ended inside a record at %d' % link.place if link.rest else 'clean'
-        taken = self.store.journal.takes.get(link.session, 0)
-        status, err = (0, '') if link.stands == 'clean' else (9, link.stands + '\n')
-        return status, err, b'taken %d\n' % taken
-
-    def write_mail(self, run, words):
-        now = self.host.now()
-        link = Link(self.begin_mail(words, int(words[3])), None)
-        self.host.sent = [record_bytes(4, b'\0')]
-        made = 0
-        while made < int(words[4]) and run.put_one(0, link, now):
-            made += 1
-        return 0, '', self.host.sent[0]
 
     def do(self, words):
         self.do_on(self.store, words)
@@ -972,7 +1038,15 @@ class Cases:
         if self.twin:
             self.compare(words, links)
         run = Run(self.store, self.host, int(words[1]), int(words[2]), links)
-        status, err = run.play()
+        if self.failing is not None:
+            self.store.load(self.failing)
+        try:
+            status, err = run.play()
+        except DiskFault:
+            status, err = 6, 'disk fault\n'
+            self.store = Store()
+            self.store.read(run.store.files[0])
+        self.store.failing = self.failing = None
         print('status %d' % status, file=self.out)
         self.out.write(err)
         for i, sent in enumerate(self.host.sent):
@@ -1006,10 +1080,9 @@ class Cases:
 
     def stops_of_mailbox(self, words):
         """Only a file that is written acknowledges. The store stays as it was."""
-        before = copy.deepcopy(self.store)
-        run = Run(self.store, self.host, 1, 1, [])
-        self.tell_stops([self.write_mail(run, words)[2]] if words[1] == 'out' else [])
-        self.store, self.host, self.input = before, Host(), b''
+        mail = Mail(copy.deepcopy(self.store), int(words[2]))
+        self.tell_stops([mail.write(self.host.now(), *map(int, words[3:]))[2]] if words[1] == 'out' else [])
+        self.host, self.input = Host(), b''
 
     def tell_stops(self, sent):
         acked = any(kind == 0 for bytes_ in sent for kind in kinds_of(bytes_))
@@ -1041,12 +1114,17 @@ def kinds_of(bytes_):
         bytes_ = bytes_[4 + int.from_bytes(bytes_[2:4], 'big'):]
 
 
+def expanded(text):
+    """A line in which `{TEXT*N}` stands for N times TEXT."""
+    return re.sub(r'\{([^*]*)\*(\d+)\}', lambda of: of[1] * int(of[2]), text)
+
+
 def main():
     cases = Cases(sys.stdout)
     for line in open(sys.argv[1], encoding='utf-8'):
         line = line.rstrip('\n')
         if line and not line.startswith('#'):
-            cases.line(line)
+            cases.line(expanded(line))
 
 
 if __name__ == '__main__':

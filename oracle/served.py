@@ -11,8 +11,7 @@ from digests import group_id, message_id
 from help_texts import texts_of
 from journal import SHORT, frames, gathered, groups_of, journal_of
 from old_stores import NOTES, SHARINGS, THREADS
-from run_model import (ACK, BATCH, OFFER, REQUEST, VERSIONS, calls_of_clear, message_record, read_one,
-                       record_bytes)
+from run_model import ACK, OFFER, REQUEST, VERSIONS, Mail, calls_of_clear, message_record, record_bytes
 from sharing import ALL_CLIENTS, LEVELS, NOTE, SHARING, THREAD, Person
 from store_file import framed, header
 from world_model import shown
@@ -239,31 +238,11 @@ class Served:
             return READ_FAULT, b'', b'read fault\n'
         if given == 'long':
             return TOO_MUCH, b'', b'input too long\n'
-        session, taken = self.begins(contact, 1), 0
-        while given:
-            record, length = read_one(given)
-            given = given[length:]
-            self.store.commit([('take', session, taken)] + self.journal.taken(session, record))
-            self.store.settle()
-            taken += 1
-        return told(f'taken {taken}\n')
+        status, err, text = Mail(self.store, contact).read(given)
+        return status, text, err.encode()
 
     def sends_mail(self, contact, latency, count):
-        session, sent = self.begins(contact, latency), record_bytes(VERSIONS, b'\0')
-        for _ in range(count):
-            due = self.journal.due(session, 0)
-            if not due:
-                break
-            kind, ids = due
-            held = self.journal.find(ids[0])
-            sent += message_record(held.group, held.timestamp, held.body) if kind == 'send' else record_bytes(ACK, b''.join(ids))
-            self.store.commit([('out', session, 0, *due)])
-        return told(sent)
-
-    def begins(self, contact, latency):
-        session = self.journal.begun
-        self.store.commit([('session', session, contact, BATCH, latency, None)])
-        return session
+        return told(Mail(self.store, contact).write(0, latency, count)[2])
 
     def does_records(self, given):
         if isinstance(given, str):

@@ -60,9 +60,9 @@ class Person(Node):
 
     def unsettled(self, does):
         """Does something behind which nothing is settled."""
-        settle, self.store.settle = self.store.settle, lambda: None
+        settles, self.store.gather_settling = self.store.gather_settling, lambda: None
         does()
-        self.store.settle = settle
+        self.store.gather_settling = settles
 
     def said(self, group, time, stance, name, major, descriptor):
         """`say`: the body, and the id of its message."""

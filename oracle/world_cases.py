@@ -89,6 +89,7 @@ def stops():
     for call in range(0, 40, 3):
         case(f'a rest is stopped at call {call}', *HELLO, 'link 0 1 interactive 1000', f'stop 1 {call} {PICKS[call % 4]}',
              'rest 9', 'link 0 1 interactive 10', 'clock 9000', 'rest 20', *SHOWN)
+    together()
     case('a second stop takes the place of the first', *PAIR, 'stop 0 0 old', 'stop 0 9 old', 'post 0 0 5 - hello')
     case('a stop that is far away', *PAIR, 'stop 0 18446744073709551615 old', 'post 0 0 5 - hello')
     case('a stop is for one device', *PAIR, 'stop 1 0 old', 'post 0 0 5 - hello')
@@ -103,6 +104,24 @@ def stops():
     case('a group that was stopped has its label', 'devices 2', 'stop 0 1 old', 'group 0 note d', 'group 1 note d',
          'share 1 0 0 shared', 'group 0 note d', 'post 0 0 5 - hello')
     case('a group that was stopped is lacked', 'devices 2', 'stop 0 1 old', 'group 0 note d', 'post 0 0 5 - hello')
+
+
+def together():
+    """A stop falls at each call of the groups of a turn: of what it hears, four calls, and of what it sends."""
+    three = [*PAIR, *[f'post 0 0 {n} - hello' for n in range(3)], 'link 0 1 batch 1000']
+    here = [*three, 'turn 0', *['carry 0 0'] * 4]
+    both = ['devices 3', *groups('note', 3), *shares((0, 1), (1, 2)), 'post 0 0 5 - one', 'post 0 0 6 - two', 'post 2 0 7 - three',
+            'link 0 1 batch 1000', 'link 2 1 batch 1000', 'turn 0', 'turn 2', *['carry 0 0'] * 3, *['carry 1 2'] * 2]
+    for pick in PICKS:
+        for call in range(5):
+            case(f'a turn that sends three notes is stopped at call {call}, {pick}', *three, f'stop 0 {call} {pick}', 'turn 0', *SHOWN,
+                 'link 0 1 batch 1000', 'rest 9', 'clock 2999', 'rest 9', 'clock 3000', 'rest 9')
+        for call in range(9):
+            case(f'a turn that hears three notes is stopped at call {call}, {pick}', *here, f'stop 1 {call} {pick}', 'turn 1', *SHOWN)
+        for call in range(17):
+            case(f'a turn that hears on two links is stopped at call {call}, {pick}', *both, f'stop 1 {call} {pick}', 'turn 1', 'show 1', 'turn 0', 'turn 2')
+    case('a turn that hears three notes is stopped, and all goes on', *here, 'stop 1 3 old', 'turn 1', 'restart 0', 'clock 3000', 'link 0 1 batch 1000',
+         'rest 9', *SHOWN)
 
 
 def groups_of_two():

@@ -12,10 +12,10 @@ import re
 import sys
 
 from digests import group_id, message_id
-from journal import GROUP, LONGEST, SHORT, entries, entry_of, frames, number
+from journal import SHORT, Group, entries, entry_of, frames, number
 from run_model import CLIENTS, Journal, Node, Store, entry_bytes
 from scripts import generated, has_form, is_number
-from store_file import CLOSED, HEADER, OPEN
+from store_file import CLOSED, HEADER, OPEN, framed
 
 PIECE, MOST_LINKS, MOST_SCRIPT, MOST_BODY, MOST_GROUPS = 65_536, 8, 1_048_576, 32_768, 1_024
 FIRST_CLOCK, MOST_COUNT, MAX64 = 1_000, 100_000, 2**64 - 1
@@ -92,7 +92,8 @@ class DiskStore(Store):
     """A store over a disk: it is loaded, and each group of batches is four calls."""
 
     def __init__(self, disk):
-        self.disk, self.journal, self.end, self.waiting = disk, Facts(), len(HEADER) + 1, b''
+        self.disk, self.journal, self.end = disk, Facts(), len(HEADER) + 1
+        self.waiting, self.groups = Group(), []
         for _ in ('sync of file 0', 'sync of file 1', 'header of file 0', 'header of file 1', 'length'):
             disk.call()
         for at, payload in frames(bytes(disk.content)):
@@ -106,35 +107,13 @@ class DiskStore(Store):
         disk.call()
         self.settle()
 
-    def wait(self, batch):
-        if len(self.waiting) + LONGEST > GROUP:
-            self.flush()
-        payload = b''.join(entry_bytes(entry, self.journal.name) for entry in batch)
-        self.waiting += OPEN + len(payload).to_bytes(4, 'big') + payload
-
-    def flush(self):
-        if self.waiting:
-            self.disk.write(self.end, self.waiting[1:] + CLOSED)
-            self.disk.sync()
-            self.disk.write(self.end - 1, OPEN)
-            self.disk.sync()
-            self.end += len(self.waiting)
-            self.waiting = b''
-
-    def write(self, batch):
-        self.wait(batch)
-        self.flush()
-
-    def settle(self):
-        for batch in self.journal.settling():
-            self.wait(batch)
-        self.flush()
-
-    def extend(self, batch):
-        self.wait(batch)
-        for entry in batch:
-            self.journal.apply(entry)
-        self.settle()
+    def append(self, group):
+        added = framed(b'', group)
+        self.disk.write(self.end, added[1:])
+        self.disk.sync()
+        self.disk.write(self.end - 1, OPEN)
+        self.disk.sync()
+        self.end += len(added) - 1
 
 
 # ---- a device
