@@ -631,8 +631,11 @@ module _ (clients : Meaning) (n now : ℕ) (l : Link) (s s1 s2 : StoreValue) (o 
         ∙ ap (λ (b : Bool). cond b (Sends now a.room) Done) (may_end l.end may)))
         refl (did_send stand clients n bytes s2 o2 o3 roomy within sends.call u went)
         (λ heard moved first at.
-        inl (sym (on_link n n bytes refl), put_sent (first + n) heard moved,
-        λ link. owed_out n link bytes))
+        inl (
+          sym (on_link n n bytes refl),
+          put_sent (first + n) heard moved,
+          λ link. owed_out n link bytes,
+        ))
     by_result (Err why) went ends =
         sent_by (Fail n bytes went.sent.0) Done (record l { end = link_end.Failed })
         (sym ends) (ap (λ (x : Link). sends_on now a.room x) (sym ends)) refl

@@ -153,13 +153,7 @@ fn answer_outs(joined: &Result<(), Fault>, made: u32, is_open: bool) -> Result<u
     match joined {
         Ok(()) => Ok(made),
         Err(Fault::Memory) => Err(Fault::Memory),
-        Err(Fault::Full) => {
-            if is_open {
-                Err(Fault::Full)
-            } else {
-                Ok(made)
-            }
-        }
+        Err(Fault::Full) => { if is_open { Err(Fault::Full) } else { Ok(made) } }
         Err(Fault::DiskFault) => Err(Fault::DiskFault),
     }
 }
