@@ -62,6 +62,14 @@ module _ (clients : Meaning) (contact latency : ℕ) (s s' : StoreValue) (o o' :
   abbrev its : List Entry
   its = first_batch (batch_session s.state.facts.begun contact latency)
 
+  -- the batch that was gathered is that of the session
+  pub its_joined : (n : ℕ) (batch : List Entry) (result : Result (Unit {0}) StoreFault)
+      → batch ≡ first_batch (batch_session n contact latency) → n ≡ s.state.facts.begun
+      → JoinsBehind clients s s' batch result o o' → JoinsBehind clients s s' its result o o'
+  its_joined n batch result is numbered joins =
+      subst (λ (b : List Entry). JoinsBehind clients s s' b result o o')
+      (is ∙ ap (λ (k : ℕ). first_batch (batch_session k contact latency)) numbered) joins
+
   begun_facts : (u : Unit {0}) → JoinsBehind clients s s' its (Ok u) o o' → s'.state.facts
       ≡ after_all s.state.facts its
   begun_facts u joins = joins.1.facts
@@ -121,13 +129,6 @@ module _ (clients : Meaning) (contact latency : ℕ) (s s' : StoreValue) (o o' :
     comes = comes_joined clients s s' its (Err e) o o' run joins;
     answer = not_begun_now e joins;
   }
-
--- the batch that was gathered is that of the session
-pub of_its_batch : (clients : Meaning) (s s' : StoreValue) (batch first : List Entry)
-    (result : Result (Unit {0}) StoreFault) (o o' : Outside) → batch ≡ first
-    → JoinsBehind clients s s' batch result o o' → JoinsBehind clients s s' first result o o'
-of_its_batch clients s s' batch first result o o' is joins =
-    subst (λ (b : List Entry). JoinsBehind clients s s' b result o o') is joins
 
 -- no memory was found for it
 pub begun_starved : ImagesStand → (clients : Meaning) (contact latency : ℕ) (s : StoreValue)

@@ -1,5 +1,6 @@
 -- A settled store that knows a contact still does, behind batches that leave it settled.
-use Rattle.std.proofs.Common.{◌≡◌, ℕ, ◌<◌, ◌≤◌, true, false, List, [], ◌∷◌, ◌++◌, sym, ap, ◌∙◌, subst}
+use Rattle.std.proofs.Common.{◌≡◌, ◌⊎◌, ℕ, ◌<◌, ◌≤◌, true, false, List, [], ◌∷◌, ◌++◌, refl, sym, ap}
+use Rattle.std.proofs.Common.{◌∙◌, subst, inl, inr}
 use Rattle.std.proofs.Common.{arith, Result, Ok, Err}
 use Rattle.std.specs.Prelude.{IsErrAnd}
 use Rattle.outside.specs.Outside.{Outside}
@@ -32,36 +33,50 @@ pub record Keeps (clients : Meaning) (f : Facts) (batch : List Entry) : Type 0 w
   pub settled : IsSettled clients f → IsSettled clients (after_all f batch)
   pub contacts : (after_all f batch).contacts ≡ f.contacts
 
+-- a front of one batch has none or it
+front_is : (batch : List Entry) (front rest : List (List Entry)) → batch ∷ [] ≡ front ++ rest
+    → (front ≡ []) ⊎ (front ≡ batch ∷ [])
+front_is batch [] rest whole = inl refl
+front_is batch (b ∷ []) rest whole =
+    let same : batch ≡ b = cc in
+    inr (ap (λ (x : List Entry). x ∷ []) (sym same))
+front_is batch (b ∷ d ∷ front) rest whole = cc
+
+-- what is known behind it
+record IsKnown (clients : Meaning) (contact : ℕ) (f : Facts) : Type 0 where
+  settled : IsSettled clients f
+  known : contact < f.contacts
+
+known_behind : (clients : Meaning) (contact : ℕ) (f : Facts) (batch : List Entry)
+    (front : List (List Entry)) → (front ≡ []) ⊎ (front ≡ batch ∷ []) → IsKnown clients contact f
+    → Keeps clients f batch → IsKnown clients contact (after_batches f front)
+known_behind clients contact f batch front (inl none) known keeps =
+    subst (λ (bs : List (List Entry)). IsKnown clients contact (after_batches f bs)) (sym none) known
+known_behind clients contact f batch front (inr one) known keeps =
+    subst (λ (bs : List (List Entry)). IsKnown clients contact (after_batches f bs)) (sym one)
+    (record {
+      settled = keeps.settled known.settled;
+      known = omega (arith, known.known, keeps.contacts);
+    })
+
 module _ (clients : Meaning) (s s' : StoreValue) (o o' : Outside) (contact : ℕ) (batch : List Entry)
   where
-    by_front : (front rest : List (List Entry)) → batch ∷ [] ≡ front ++ rest
-        → GathersFor clients s o contact → Keeps clients s.state.facts batch
-        → IsGathering clients s' o'.files
-        → s'.state.facts ≡ after_batches s.state.facts front → GathersFor clients s' o' contact
-    by_front [] rest whole knows keeps gathering is = record {
-      gathering = gathering;
-      settled = subst (λ (f : Facts). IsSettled clients f) (sym is) knows.settled;
-      known = subst (λ (f : Facts). contact < f.contacts) (sym is) knows.known;
-    }
-    by_front (b ∷ []) rest whole knows keeps gathering is =
-        let same : batch ≡ b = cc in
-        let now : s'.state.facts ≡ after_all s.state.facts batch =
-        is ∙ ap (after_all s.state.facts) (sym same) in
-        record {
-          gathering = gathering;
-          settled = subst (λ (f : Facts). IsSettled clients f) (sym now) (keeps.settled knows.settled);
-          known = omega (arith, knows.known, ap (λ (f : Facts). f.contacts) now, keeps.contacts);
-        }
-    by_front (b ∷ d ∷ front) rest whole knows keeps gathering is = cc
-
     known_front : (r : Result (Unit {0}) Outcome) → s'.closed ≡ false
         → GathersFor clients s o contact → Keeps clients s.state.facts batch
         → GathersFront clients s s' o o' (batch ∷ []) r
         → (s'.closed ≡ false → IsGathering clients s' o'.files) → GathersFor clients s' o' contact
     known_front r opened knows keeps added gathering =
         let some = front_of s' (batch ∷ []) added.front r added.answer in
-        by_front added.front some.rest some.whole knows keeps (gathering opened)
-        (added.comes.facts opened)
+        let behind : IsKnown clients contact s'.state.facts =
+        subst (IsKnown clients contact) (sym (added.comes.facts opened))
+        (known_behind clients contact s.state.facts batch added.front
+        (front_is batch added.front some.rest some.whole)
+        (record { settled = knows.settled; known = knows.known }) keeps) in
+        record {
+          gathering = gathering opened;
+          settled = behind.settled;
+          known = behind.known;
+        }
 
     pub known_after : (r : Result (Unit {0}) Outcome) → GathersFor clients s o contact
         → Keeps clients s.state.facts batch → GathersFront clients s s' o o' (batch ∷ []) r

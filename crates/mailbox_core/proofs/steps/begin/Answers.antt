@@ -1,12 +1,10 @@
-use Rattle.std.proofs.Common.{ℕ, Ok, Err, is_some, sym, ap, ◌∙◌}
+use Rattle.std.proofs.Common.{◌≡◌, Some, None, Ok, Err, is_some, sym, ap, ◌∙◌}
 use Rattle.std.proofs.lemmas.Bool.{false≢true}
 use Rattle.sync_rules.specs.Facts.{session_at}
-use Rattle.sync_rules.specs.Hearing.{batch_session}
 use Rattle.sync_store.specs.declared.fault.StoreFault.TheVariants as fault
 use Rattle.mailbox_core.specs.Steps.{HasBegunSession}
-use Rattle.mailbox_core.specs.Taking.{first_batch}
 use Rattle.mailbox_core.proofs.BeginSteps.{begun_able, begun_found, begun_starved, has_begun}
-use Rattle.mailbox_core.proofs.BeginSteps.{not_begun, of_its_batch}
+use Rattle.mailbox_core.proofs.BeginSteps.{its_joined, not_begun}
 use Rattle.mailbox_core.proofs.Joined.{on_error}
 use Rattle.mailbox_core.proofs.steps.begin.Goals as goal
 
@@ -28,15 +26,12 @@ returns-in_err-gather_known-clause-begun g c =
     let o = g.D.Disk.tells c.args.disk.now in
     let o' = g.D.Disk.tells c.gather_known.new.disk in
     let e = c.in_err-gather_known.field-0.0 in
-    let first = first_batch (batch_session s.state.facts.begun c.args.contact c.args.latency) in
-    let batch = c.in_ok-batch.ensures
-    ∙ ap (λ (k : ℕ). first_batch (batch_session k c.args.contact c.args.latency))
-    c.sessions-number.ensures in
     on_error c.from_residual-in_err-gather_known.result e
     (λ r. HasBegunSession clients c.args.contact c.args.latency s s' r o o')
     c.from_residual-in_err-gather_known.ensures.1
     (not_begun clients c.args.contact c.args.latency s s' o o' e c.gather_known.ensures.run
-    (of_its_batch clients s s' c.in_ok-batch.batch first (Err e) o o' batch
+    (its_joined clients c.args.contact c.args.latency s s' o o' c.sessions-number.result
+    c.in_ok-batch.batch (Err e) c.in_ok-batch.ensures c.sessions-number.ensures
     c.in_err-gather_known.ensures.joins))
 
 pub returns-clause-begun : goal.returns-clause-begun
@@ -46,16 +41,14 @@ returns-clause-begun g c =
     let s' = c.gather_known.new.self in
     let o = g.D.Disk.tells c.args.disk.now in
     let o' = g.D.Disk.tells c.gather_known.new.disk in
-    let first = first_batch (batch_session s.state.facts.begun c.args.contact c.args.latency) in
-    let batch = c.in_ok-batch.ensures
-    ∙ ap (λ (k : ℕ). first_batch (batch_session k c.args.contact c.args.latency))
-    c.sessions-number.ensures in
-    let found = sym (sym c.in-Some.is
+    let found : session_at s'.state.facts.sessions s.state.facts.begun ≡ Some c.in-Some.begun =
+    sym (sym c.in-Some.is
     ∙ (c.session.ensures.value
     ∙ (λ i. session_at (c.state.ensures i).facts.sessions (c.sessions-number.ensures i)))) in
     has_begun clients c.args.contact c.args.latency s s' o o' tt c.in-Some.begun
     c.gather_known.ensures.run
-    (of_its_batch clients s s' c.in_ok-batch.batch first (Ok tt) o o' batch
+    (its_joined clients c.args.contact c.args.latency s s' o o' c.sessions-number.result
+    c.in_ok-batch.batch (Ok tt) c.in_ok-batch.ensures c.sessions-number.ensures
     c.in_ok-gather_known.ensures.joins) found
 
 pub returns-clause-opened : goal.returns-clause-opened
@@ -65,33 +58,29 @@ returns-clause-opened g c =
     let s' = c.gather_known.new.self in
     let o = g.D.Disk.tells c.args.disk.now in
     let o' = g.D.Disk.tells c.gather_known.new.disk in
-    let first = first_batch (batch_session s.state.facts.begun c.args.contact c.args.latency) in
-    let batch = c.in_ok-batch.ensures
-    ∙ ap (λ (k : ℕ). first_batch (batch_session k c.args.contact c.args.latency))
-    c.sessions-number.ensures in
-    let found = sym (sym c.in-Some.is
+    let found : session_at s'.state.facts.sessions s.state.facts.begun ≡ Some c.in-Some.begun =
+    sym (sym c.in-Some.is
     ∙ (c.session.ensures.value
     ∙ (λ i. session_at (c.state.ensures i).facts.sessions (c.sessions-number.ensures i)))) in
     begun_able clients c.args.contact c.args.latency s s' o o' tt c.in-Some.begun
     c.requires.settled
-    (of_its_batch clients s s' c.in_ok-batch.batch first (Ok tt) o o' batch
+    (its_joined clients c.args.contact c.args.latency s s' o o' c.sessions-number.result
+    c.in_ok-batch.batch (Ok tt) c.in_ok-batch.ensures c.sessions-number.ensures
     c.in_ok-gather_known.ensures.joins) found c.gather_known.ensures.gathering
 
 pub unreachable-requires : goal.unreachable-requires
 unreachable-requires g c =
     let clients = g.C.Clients.meaning c.args.clients.now in
     let s = c.args.store.now in
-    let n = s.state.facts.begun in
-    let batch = c.in_ok-batch.ensures
-    ∙ ap (λ (k : ℕ). first_batch (batch_session k c.args.contact c.args.latency))
-    c.sessions-number.ensures in
-    let found = begun_found clients c.args.contact c.args.latency s c.gather_known.new.self
-    (g.D.Disk.tells c.args.disk.now) (g.D.Disk.tells c.gather_known.new.disk) tt
-    (of_its_batch clients s c.gather_known.new.self c.in_ok-batch.batch
-    (first_batch (batch_session n c.args.contact c.args.latency)) (Ok tt)
-    (g.D.Disk.tells c.args.disk.now) (g.D.Disk.tells c.gather_known.new.disk) batch
+    let s' = c.gather_known.new.self in
+    let o = g.D.Disk.tells c.args.disk.now in
+    let o' = g.D.Disk.tells c.gather_known.new.disk in
+    let found = begun_found clients c.args.contact c.args.latency s s' o o' tt
+    (its_joined clients c.args.contact c.args.latency s s' o o' c.sessions-number.result
+    c.in_ok-batch.batch (Ok tt) c.in_ok-batch.ensures c.sessions-number.ensures
     c.in_ok-gather_known.ensures.joins) in
-    let none = sym c.in-None.is
+    let none : None ≡ session_at s'.state.facts.sessions s.state.facts.begun =
+    sym c.in-None.is
     ∙ (c.session.ensures.value
     ∙ (λ i. session_at (c.state.ensures i).facts.sessions (c.sessions-number.ensures i))) in
     false≢true (ap is_some none ∙ found)

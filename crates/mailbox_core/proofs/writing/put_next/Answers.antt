@@ -2,11 +2,11 @@ use Rattle.std.proofs.Common.{ℕ, List, ◌++◌, Ok, Err, ◌∙◌, ap, sym, 
 use Rattle.journal_state.specs.Allowing.{due_of}
 use Rattle.journal_state.specs.Whole.{KnowsJudgements, StateValue}
 use Rattle.sync_rules.specs.Facts.{session_at}
+use Rattle.sync_rules.specs.Legal.{IsDue}
 use Rattle.sync_store.specs.declared.fault.StoreFault.TheVariants as fault
 use Rattle.mailbox_core.specs.Steps.{HasPut}
 use Rattle.sync_course.specs.LinkTurns.{out_batch}
-use Rattle.mailbox_core.proofs.BeginSteps.{of_its_batch}
-use Rattle.mailbox_core.proofs.Joined.{on_error}
+use Rattle.mailbox_core.proofs.Joined.{of_its_batch, on_error}
 use Rattle.mailbox_core.proofs.SendSteps.{able_put, due_is, put_failed, put_made, put_none}
 use Rattle.mailbox_core.proofs.SendSteps.{put_starved}
 use Rattle.mailbox_core.proofs.writing.put_next.Goals as goal
@@ -85,7 +85,8 @@ returns-in_err-gather_known-clause-put g c =
     let to = c.args.to.now.items in
     let to' = c.extend_from_slice.new.self.items in
     let e = c.in_err-gather_known.field-0.0 in
-    let due = due_is clients s.state.facts (session_at s.state.facts.sessions n) c.args.now what
+    let due : IsDue clients s.state.facts (session_at s.state.facts.sessions n) c.args.now what =
+    due_is clients s.state.facts (session_at s.state.facts.sessions n) c.args.now what
     (sym c.in-Some.is
     ∙ (c.in_ok-out.ensures.due clients
     (subst (KnowsJudgements clients) (sym c.state.ensures) c.requires.able.gathering.knows)
@@ -110,7 +111,8 @@ returns-clause-put g c =
     let what = c.in-Some.out in
     let to = c.args.to.now.items in
     let to' = c.extend_from_slice.new.self.items in
-    let due = due_is clients s.state.facts (session_at s.state.facts.sessions n) c.args.now what
+    let due : IsDue clients s.state.facts (session_at s.state.facts.sessions n) c.args.now what =
+    due_is clients s.state.facts (session_at s.state.facts.sessions n) c.args.now what
     (sym c.in-Some.is
     ∙ (c.in_ok-out.ensures.due clients
     (subst (KnowsJudgements clients) (sym c.state.ensures) c.requires.able.gathering.knows)

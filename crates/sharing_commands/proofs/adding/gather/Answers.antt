@@ -1,5 +1,9 @@
+use Rattle.session_core.proofs.Unknown.{unknown}
 use Rattle.sharing_commands.proofs.Fronts.{one_added, one_broken, one_left, one_refused}
 use Rattle.sharing_commands.proofs.adding.gather.Goals as goal
+
+pub gather_known-requires-clause-named : goal.gather_known-requires-clause-named
+gather_known-requires-clause-named g c = unknown c.args.batch
 
 pub returns-in-Ok-clause-adds : goal.returns-in-Ok-clause-adds
 returns-in-Ok-clause-adds g c =

@@ -6,8 +6,8 @@ use Rattle.sharing_commands.proofs.Standing.{by_then, front_broken, front_closed
 use Rattle.sharing_commands.proofs.Standing.{gathers_open, known_closed, known_flushed}
 use Rattle.sharing_commands.proofs.agreeing.add_agreed.Goals as goal
 
-pub gather_agreed-requires : goal.gather_agreed-requires
-gather_agreed-requires g c = record {
+pub gather_agreed-gathered-requires : goal.gather_agreed-gathered-requires
+gather_agreed-gathered-requires g c = record {
   stands = gathers_for (g.C.Clients.meaning c.args.clients.now) c.args.store.now
       (g.D.Disk.tells c.args.disk.now) c.args.contact c.requires.stands;
 }
