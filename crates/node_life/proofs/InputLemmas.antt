@@ -53,18 +53,16 @@ too_long n past = record {
 -- ---- what a read gives
 
 -- of bytes that are there
-pub front_read : (bytes buf copied more : List ℕ) (n len : ℕ) → copied ≡ take (n - 0) bytes
+pub front_read : (bytes buf copied more : List ℕ) (n len : ℕ) → copied ≡ take n bytes
     → n ≡ min (length buf) len → len ≡ length bytes → 0 < length bytes
     → (bytes ++ more
     ≡ take n (copied ++ drop n buf) ++ (take (length bytes - n) (drop n bytes) ++ more))
     × (n ≡ 0 → 0 < length (copied ++ drop n buf)
     → take (length bytes - n) (drop n bytes) ++ more ≡ [])
 front_read bytes buf copied more n len is_copied is_n is_len some =
-    let still : n - 0 ≡ n = omega arith in
-    let same : copied ≡ take n bytes = is_copied ∙ ap (λ k. take k bytes) still in
-    let long : length copied ≡ n = ap length same ∙ omega (arith, length-take n bytes) in
+    let long : length copied ≡ n = ap length is_copied ∙ omega (arith, length-take n bytes) in
     let front : take n (copied ++ drop n buf) ≡ take n bytes =
-    take_at copied (drop n buf) n long ∙ same in
+    take_at copied (drop n buf) n long ∙ is_copied in
     let rest : take (length bytes - n) (drop n bytes) ≡ drop n bytes =
     take_all (length bytes - n) (drop n bytes) (omega (arith, length-drop n bytes)) in
     (
@@ -79,13 +77,18 @@ front_read bytes buf copied more n len is_copied is_n is_len some =
       absurd (omega (arith, is_n, is_len, some, none, all, room)),
     )
 
+none_left : (bytes : List ℕ) → length bytes ≡ 0 → bytes ≡ []
+none_left [] none = refl
+none_left (b ∷ bytes) none = absurd (omega (arith, none))
+
 -- of the filling
-pub filling_read : (bytes buf filled : List ℕ) (filling n k : ℕ) → bytes ≡ []
+pub filling_read : (bytes buf filled : List ℕ) (filling n k : ℕ) → length bytes ≡ 0
     → filled ≡ replicate k 255 → k ≡ n → n ≡ min (length buf) filling
     → (bytes ++ replicate filling 255
     ≡ take n (filled ++ drop n buf) ++ (bytes ++ replicate (filling - n) 255))
     × (n ≡ 0 → 0 < length (filled ++ drop n buf) → bytes ++ replicate (filling - n) 255 ≡ [])
-filling_read bytes buf filled filling n k none is_filled is_k is_n =
+filling_read bytes buf filled filling n k no_bytes is_filled is_k is_n =
+    let none : bytes ≡ [] = none_left bytes no_bytes in
     let same : filled ≡ replicate n 255 =
     is_filled ∙ ap (λ (x : ℕ). replicate x 255) is_k in
     let long : length filled ≡ n = ap length same ∙ length-replicate n 255 in
