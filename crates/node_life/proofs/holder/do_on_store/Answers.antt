@@ -44,7 +44,8 @@ returns-in-Err-clause-answers g c =
           settles_ready clients c.args.store.now c.migrate_and_settle.new.store _ _
           (Err c.in-Err.came) c.requires.ready e.run e.by
           (λ is. ap g.H.Disk.tells (e.untouched is)) e.settled;
-      undone = not_settled _ _ c.in-Err.came e.by;
+      undone = not_settled (g.H.Disk.tells c.args.host.now)
+          (g.H.Disk.tells c.migrate_and_settle.new.disk) c.in-Err.came e.by;
       is = c.said-in-Err.ensures out
           ∙ ap (λ (text : List ℕ). said_of c.in-Err.came text) c.requires.empty;
     }))
