@@ -1,11 +1,11 @@
 -- The inputs of requests, and commands over them.
 use Rattle.std.proofs.Common.{◌≡◌, ◌==◌, ℕ, zero, suc, ◌+◌, ◌<◌, ◌≤◌, Bool, true, false, List, [], ◌∷◌}
-use Rattle.std.proofs.Common.{◌++◌, append-nil, length-append, length, take, drop, refl, sym, ap, ◌∙◌, subst}
-use Rattle.std.proofs.Common.{arith, inl, inr, Option, None, Some}
+use Rattle.std.proofs.Common.{◌-◌, ◌++◌, append-nil, length-append, length-drop, length, take, drop, refl, sym, ap, ◌∙◌, subst}
+use Rattle.std.proofs.Common.{arith, lit<, inl, inr, Option, None, Some}
 use Rattle.std.specs.Prelude.{◌⊎◌, ◌&&◌, ◌||◌, min, nat_lt, replicate}
-use Rattle.std.proofs.Math.ListN.{length-replicate}
+use Rattle.std.proofs.Math.ListN.{length-replicate, replicate-append-replicate}
 use Rattle.std.proofs.lemmas.Bool.{ltb-false, ltb-true}
-use Rattle.std.proofs.lemmas.List.{append_assoc, length-take, take-append-drop, take_all}
+use Rattle.std.proofs.lemmas.List.{append_assoc, length-take, take-append-drop, take_all, take_at}
 use Rattle.std.specs.Io.KnownBytes.{Consumes, IsAtEnd}
 use Rattle.outside.specs.Outside.{Outside}
 use Rattle.outside.specs.Streams.{IsIdle, Stream}
@@ -28,7 +28,9 @@ use Rattle.store_commands.specs.Post.{HasPosted, IsBody, PostStops, PostsBody}
 use Rattle.store_commands.specs.Stopping.{InputStops}
 use Rattle.node_service.specs.Words.{reads_most}
 use Rattle.node_requests.specs.Requests.{DoesRequest}
-use Rattle.node_life.specs.Inputs.{IsGivenTooLong, IsTooLong, ReadsGiven}
+use Rattle.node_life.specs.Inputs.{IsGivenTooLong, IsTooLong, ReadsGiven, failing_told, given_told}
+use Rattle.node_life.specs.declared.input.Failing.{Failing}
+use Rattle.node_life.specs.declared.input.Given.{Given}
 use Rattle.node_life.specs.Requests.{Answers, AnswersAsked, AnswersSettled, AreStreams, Said}
 use Rattle.node_life.specs.Requests.{StaysUnsettled, is_enough}
 
@@ -47,6 +49,67 @@ too_long n past = record {
   past = subst (λ (k : ℕ). MAX_INPUT < k) (sym (length-replicate n 255)) past;
   none = none_begins MAX_INPUT n;
 }
+
+-- ---- what a read gives
+
+-- of bytes that are there
+pub front_read : (bytes buf copied more : List ℕ) (n len : ℕ) → copied ≡ take n bytes
+    → n ≡ min (length buf) len → len ≡ length bytes → 0 < length bytes
+    → (bytes ++ more
+    ≡ take n (copied ++ drop n buf) ++ (take (length bytes - n) (drop n bytes) ++ more))
+    × (n ≡ 0 → 0 < length (copied ++ drop n buf)
+    → take (length bytes - n) (drop n bytes) ++ more ≡ [])
+front_read bytes buf copied more n len is_copied is_n is_len some =
+    let long : length copied ≡ n = ap length is_copied ∙ omega (arith, length-take n bytes) in
+    let front : take n (copied ++ drop n buf) ≡ take n bytes =
+    take_at copied (drop n buf) n long ∙ is_copied in
+    let rest : take (length bytes - n) (drop n bytes) ≡ drop n bytes =
+    take_all (length bytes - n) (drop n bytes) (omega (arith, length-drop n bytes)) in
+    (
+      ap (λ (l : List ℕ). l ++ more) (sym (take-append-drop n bytes))
+          ∙ append_assoc (take n bytes) (drop n bytes) more
+          ∙ ap (λ (l : List ℕ). l ++ (drop n bytes ++ more)) (sym front)
+          ∙ ap (λ (l : List ℕ). take n (copied ++ drop n buf) ++ (l ++ more)) (sym rest),
+      λ none room.
+      let empty : length copied ≡ 0 = long ∙ none in
+      let all : length (copied ++ drop n buf) ≡ length buf =
+      length-append copied (drop n buf) ∙ omega (arith, length-drop n buf, empty, none) in
+      absurd (omega (arith, is_n, is_len, some, none, all, room)),
+    )
+
+none_left : (bytes : List ℕ) → length bytes ≡ 0 → bytes ≡ []
+none_left [] none = refl
+none_left (b ∷ bytes) none = absurd (omega (arith, none))
+
+-- of the filling
+pub filling_read : (bytes buf filled : List ℕ) (filling n k : ℕ) → length bytes ≡ 0
+    → filled ≡ replicate k 255 → k ≡ n → n ≡ min (length buf) filling
+    → (bytes ++ replicate filling 255
+    ≡ take n (filled ++ drop n buf) ++ (bytes ++ replicate (filling - n) 255))
+    × (n ≡ 0 → 0 < length (filled ++ drop n buf) → bytes ++ replicate (filling - n) 255 ≡ [])
+filling_read bytes buf filled filling n k no_bytes is_filled is_k is_n =
+    let none : bytes ≡ [] = none_left bytes no_bytes in
+    let same : filled ≡ replicate n 255 =
+    is_filled ∙ ap (λ (x : ℕ). replicate x 255) is_k in
+    let long : length filled ≡ n = ap length same ∙ length-replicate n 255 in
+    let front : take n (filled ++ drop n buf) ≡ replicate n 255 =
+    take_at filled (drop n buf) n long ∙ same in
+    let count : n + (filling - n) ≡ filling = omega (arith, is_n) in
+    (
+      ap (λ (l : List ℕ). l ++ replicate filling 255) none
+          ∙ ap (λ (x : ℕ). replicate x 255) (sym count)
+          ∙ sym (replicate-append-replicate n (filling - n) 255)
+          ∙ ap (λ (l : List ℕ). l ++ replicate (filling - n) 255) (sym front)
+          ∙ ap (λ (l : List ℕ).
+          take n (filled ++ drop n buf) ++ (l ++ replicate (filling - n) 255)) (sym none),
+      λ zero_is room.
+      let empty : length filled ≡ 0 = long ∙ zero_is in
+      let all : length (filled ++ drop n buf) ≡ length buf =
+      length-append filled (drop n buf) ∙ omega (arith, length-drop n buf, empty, zero_is) in
+      let nothing : filling - n ≡ 0 = omega (arith, is_n, zero_is, all, room) in
+      ap (λ (l : List ℕ). l ++ replicate (filling - n) 255) none
+      ∙ ap (λ (x : ℕ). replicate x 255) nothing,
+    )
 
 -- ---- commands over other streams
 
@@ -155,12 +218,12 @@ kept_whole most kept input is short =
 
 module _ (n most : ℕ) (kept input : List ℕ) (is : kept ≡ take most input) (a b : Stream)
     (bytes : a.bytes ≡ Some kept) (faults : b.faults ≡ a.faults) where
-  abbrev Given : (input input' : Stream) → Type 0
-  Given = ReadsGiven (size.Bytes n) input
+  abbrev IsGiven : (input input' : Stream) → Type 0
+  IsGiven = ReadsGiven (size.Bytes n) input
 
   -- a command that reads nothing
   idle_moves : (does : (out out' : Stream) → Outcome → Type 0)
-      → Moves (λ i i' out out' came. does out out' came × IsIdle i i') Given a b
+      → Moves (λ i i' out out' came. does out out' came × IsIdle i i') IsGiven a b
   idle_moves does = record {
     a' = record { bytes = Some input; faults = a.faults };
     b' = record { bytes = Some input; faults = a.faults };
@@ -181,7 +244,7 @@ module _ (n most : ℕ) (kept input : List ℕ) (is : kept ≡ take most input) 
   abbrev post_b : Stream
   post_b = record { bytes = with_more b.bytes; faults = b.faults }
 
-  post_given : Given post_a post_b
+  post_given : IsGiven post_a post_b
   post_given = (
     ap with_more bytes
         ∙ ap Some (ap (λ (k : List ℕ). k ++ drop most input) is ∙ take-append-drop most input),
@@ -252,7 +315,7 @@ module _ (n most : ℕ) (kept input : List ℕ) (is : kept ≡ take most input) 
       posted_moves came (inr did) = inr (posts_moves came did)
 
     post_moves : (clients : Meaning) (group : Id) (timestamp : ℕ) (o1 o2 : Outside)
-        → Moves (DoesRequest clients (command.Post group timestamp) o1 o2) Given a b
+        → Moves (DoesRequest clients (command.Post group timestamp) o1 o2) IsGiven a b
     post_moves clients group timestamp o1 o2 = record {
       a' = post_a;
       b' = post_b;
@@ -268,15 +331,15 @@ module _ (n most : ℕ) (kept input : List ℕ) (is : kept ≡ take most input) 
     Was asked = AnswersAsked tells clients (AreStreams a b) (Do asked) old new said
 
     abbrev Is : Command → Type 0
-    Is asked = AnswersAsked tells clients Given (Do asked) old new said
+    Is asked = AnswersAsked tells clients IsGiven (Do asked) old new said
 
     abbrev moved : (asked : Command)
-        → ((o1 o2 : Outside) → Moves (DoesRequest clients asked o1 o2) Given a b)
+        → ((o1 o2 : Outside) → Moves (DoesRequest clients asked o1 o2) IsGiven a b)
         → AnswersSettled tells clients (AreStreams a b) asked old new said
         ⊎ StaysUnsettled tells clients old new said
-        → AnswersSettled tells clients Given asked old new said
+        → AnswersSettled tells clients IsGiven asked old new said
         ⊎ StaysUnsettled tells clients old new said
-    moved asked m w = store_moves tells clients Given a b old new said asked m w
+    moved asked m w = store_moves tells clients IsGiven a b old new said asked m w
 
     -- no more of the input was kept than this, and the command reads no more
     cut_enough : most ≤ length kept → (asked : Command)
@@ -323,7 +386,7 @@ module _ (n most : ℕ) (kept input : List ℕ) (is : kept ≡ take most input) 
     by_front : (all : Bool) → nat_lt (length kept) most ≡ all → (asked : Command)
         → is_enough asked most (length kept) ≡ true → Was asked → Is asked
     by_front true short asked enough w =
-        given_same tells clients Given a b old new said (
+        given_same tells clients IsGiven a b old new said (
           bytes ∙ ap Some (kept_whole most kept input is (ltb-true (length kept) most short)),
           faults,
         ) asked w
@@ -336,3 +399,17 @@ module _ (n most : ℕ) (kept input : List ℕ) (is : kept ≡ take most input) 
     pub given_enough : (asked : Command) → is_enough asked most (length kept) ≡ true → Was asked
         → Is asked
     given_enough asked enough w = by_front (nat_lt (length kept) most) refl asked enough w
+
+-- ---- the inputs of requests, by what was said of them
+
+pub given_failed : (s : InputSize) (bytes : List ℕ) (f g : Failing) → s ≡ size.Failed
+    → ReadsGiven s bytes (failing_told f) (failing_told g)
+given_failed s bytes f g is =
+    subst (λ (x : InputSize). ReadsGiven x bytes (failing_told f) (failing_told g)) (sym is)
+    ((255 ∷ [], refl, lit< tt), refl)
+
+pub given_long : (s : InputSize) (bytes : List ℕ) (f g : Given) → s ≡ size.Long
+    → IsGivenTooLong (given_told f) → ReadsGiven s bytes (given_told f) (given_told g)
+given_long s bytes f g is long =
+    subst (λ (x : InputSize). ReadsGiven x bytes (given_told f) (given_told g)) (sym is)
+    (long, refl)

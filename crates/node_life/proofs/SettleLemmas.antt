@@ -79,7 +79,8 @@ module _ (clients : Meaning) (s s1 : StoreValue) (o o1 : Outside) (out : Stream)
       → (IsErrOf r outcome.Full → o1 ≡ o) → SettlesAnew clients s s1 o o1 r
       → RunsWork clients outcome.Done (settling_alone clients) s o o1 out out (came_to r)
   by_answer (Ok u) run by still settled = settled_whole u run settled
-  by_answer (Err came) run by still settled = unsettled came run by still settled
+  by_answer (Err came) run by still settled =
+      unsettled came run by (λ is. still (ap (λ (x : Outcome). Err x) is)) settled
 
 -- ---- a store that was loaded
 

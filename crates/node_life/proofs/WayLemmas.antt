@@ -484,8 +484,8 @@ module _ {H : Type 0} (tells : H → Outside) (clients : Meaning) (request : Req
       → (next : Journal) × IsOnWay clients request j next × StandsSynced clients two' next
   request_end goes_on two' files' = elim w.synced [
     | inl failed ↦ absurd (let both : true ≡ false = sym failed.1 ∙ goes_on in cc)
-    | inr stands ↦
-        let one = stands two' files' in
+    | inr here ↦
+        let one = here two' files' in
         let reached =
         reads_so (tells old) (tells new) two' (Reached clients (IsOnWay clients request j))
         request_way files' in
