@@ -117,17 +117,18 @@ adds_still s all front (Err outcome.Memory) so = so
 adds_still s all front (Err outcome.DiskFault) so = so
 adds_still s all front (Err _) so = absurd so
 
+-- a store that is ready gathers
+pub gathers_for : (clients : Meaning) (s : StoreValue) (o : Outside) (contact : ℕ)
+    → KnowsContact clients s o contact → GathersFor clients s o contact
+gathers_for clients s o contact knows = record {
+  gathering = gathering_none clients s o.files knows.is_store knows.ready;
+  settled = knows.settled;
+  known = knows.known;
+}
+
 module _ (clients : Meaning) (s s1 : StoreValue) (o o1 : Outside) (contact : ℕ)
     (all : List (List Entry)) (r : Result (Unit {0}) Outcome)
     (knows : KnowsContact clients s o contact) (has : GathersFront clients s s1 o o1 all r) where
-  -- the store gathers
-  pub gathers_for : GathersFor clients s o contact
-  gathers_for = record {
-    gathering = gathering_none clients s o.files knows.is_store knows.ready;
-    settled = knows.settled;
-    known = knows.known;
-  }
-
   -- a call of the disk had failed
   pub front_closed : s1.closed ≡ true → AddsFront clients s s1 o o1 all r
   front_closed closed = record {

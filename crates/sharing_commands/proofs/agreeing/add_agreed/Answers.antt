@@ -2,6 +2,7 @@ use Rattle.std.proofs.Common.{◌≡◌, true, false, Ok, Err, sym, ap, ◌∙�
 use Rattle.sync_store.specs.Store.{StoreValue}
 use Rattle.sync_store.proofs.Behind.{flush_behind}
 use Rattle.mailbox_core.proofs.Joined.{closed_so, rose_behind}
+use Rattle.sharing_commands.specs.Agreement.{agreed_batches}
 use Rattle.sharing_commands.proofs.Standing.{by_then, front_broken, front_closed, front_flushed, gathers_for}
 use Rattle.sharing_commands.proofs.Standing.{gathers_open, known_closed, known_flushed}
 use Rattle.sharing_commands.proofs.agreeing.add_agreed.Goals as goal
@@ -18,14 +19,19 @@ flush-requires g c =
     record {
       gathering = gathers_open (g.C.Clients.meaning c.args.clients.now)
           c.gather_agreed-gathered.new.store (g.D.Disk.tells c.gather_agreed-gathered.new.disk)
-          c.args.contact _ e.adds.front c.gather_agreed-gathered.result e.adds.answer
+          c.args.contact
+          (agreed_batches (g.C.Clients.meaning c.args.clients.now) c.args.contact c.args.group.now
+          c.args.store.now.state.facts) e.adds.front c.gather_agreed-gathered.result e.adds.answer
           (sym c.is_closed.ensures.closed ∙ c.if-is_closed.false) e.stands;
     }
 
 pub returns-then-is_closed-clause-adds : goal.returns-then-is_closed-clause-adds
 returns-then-is_closed-clause-adds g c =
     let clients = g.C.Clients.meaning c.args.clients.now in
-    front_closed clients c.args.store.now c.gather_agreed-gathered.new.store _ _ c.args.contact _
+    let s = c.args.store.now in
+    front_closed clients s c.gather_agreed-gathered.new.store (g.D.Disk.tells c.args.disk.now)
+    (g.D.Disk.tells c.gather_agreed-gathered.new.disk) c.args.contact
+    (agreed_batches clients c.args.contact c.args.group.now s.state.facts)
     c.gather_agreed-gathered.result c.requires.stands c.gather_agreed-gathered.ensures.adds
     (sym c.is_closed.ensures.closed ∙ c.if-is_closed.true)
 
@@ -45,7 +51,9 @@ returns-in-Ok-clause-adds g c =
     let o1 = g.D.Disk.tells c.gather_agreed-gathered.new.disk in
     let o2 = g.D.Disk.tells c.flush.new.disk in
     let f = c.in-Ok.ensures in
-    front_flushed clients c.args.store.now s1 _ o1 c.args.contact _
+    let s = c.args.store.now in
+    front_flushed clients s s1 (g.D.Disk.tells c.args.disk.now) o1 c.args.contact
+    (agreed_batches clients c.args.contact c.args.group.now s.state.facts)
     c.gather_agreed-gathered.result c.requires.stands c.gather_agreed-gathered.ensures.adds s2 o2
     (sym c.is_closed.ensures.closed ∙ c.if-is_closed.false)
     (flush_behind clients s1 s2 (Ok tt) o1 o2 f.ok tt f.run f.calls f.appends f.adds) f.ok
@@ -58,7 +66,9 @@ returns-in-Err-clause-adds g c =
     let o1 = g.D.Disk.tells c.gather_agreed-gathered.new.disk in
     let o2 = g.D.Disk.tells c.flush.new.disk in
     let f = c.in-Err.ensures in
-    front_broken clients c.args.store.now s1 _ o1 c.args.contact _
+    let s = c.args.store.now in
+    front_broken clients s s1 (g.D.Disk.tells c.args.disk.now) o1 c.args.contact
+    (agreed_batches clients c.args.contact c.args.group.now s.state.facts)
     c.gather_agreed-gathered.result c.requires.stands c.gather_agreed-gathered.ensures.adds s2 o2
     (sym c.is_closed.ensures.closed ∙ c.if-is_closed.false)
     (flush_behind clients s1 s2 (Err _) o1 o2 tt f.err f.run f.calls f.appends f.adds)
