@@ -1,5 +1,5 @@
 -- A file that is read or written, of which all that waits is added to the journal.
-use Rattle.std.proofs.Common.{◌≡◌, ℕ, ◌+◌, ◌<◌, true, false, List, [], ◌∷◌, ◌++◌, refl, sym, ap, subst}
+use Rattle.std.proofs.Common.{◌≡◌, ℕ, ◌+◌, true, false, List, [], ◌∷◌, ◌++◌, refl, sym, ap, subst}
 use Rattle.std.proofs.Common.{◌∙◌, inl, inr, Result, Ok, Err}
 use Rattle.outside.specs.Outside.{Outside}
 use Rattle.sync_ids.specs.declared.records.Record.{Record}
@@ -15,10 +15,10 @@ use Rattle.mailbox_core.proofs.Together.{comes_broken, comes_flushed}
 use Rattle.mailbox_core.specs.declared.ends.BoxEnd.{BoxEnd}
 use Rattle.mailbox_core.specs.Files.{box_records}
 use Rattle.mailbox_core.specs.Reading.{HasReadBox, ReadsSo, ReadsSome, ReadsUntilFull}
-use Rattle.mailbox_core.specs.Sending.{HasWrittenBox, SendsAll, SendsSome, SendsUntilFull, WritesSo}
+use Rattle.mailbox_core.specs.Sending.{HasWrittenBox, SendsAll, SendsUntilFull, WritesSo}
 use Rattle.mailbox_core.specs.Sending.{WritesSome, WritesUntilFull}
 use Rattle.mailbox_core.specs.Steps.{HasAddedBox, HasGatheredBox, HasPutBox, PutsBoxSo}
-use Rattle.mailbox_core.specs.Taking.{AllTaken, BeginsThen, NoRoomFor, SomeTaken, TakesThen, TakesTo}
+use Rattle.mailbox_core.specs.Taking.{AllTaken, BeginsThen, NoRoomFor, SomeTaken, TakesTo}
 
 abbrev Batches : Type 0
 Batches = List (List Entry)

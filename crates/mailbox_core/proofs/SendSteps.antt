@@ -30,7 +30,7 @@ use Rattle.sync_store.specs.Store.{IsStore, NoneWaits, StoreValue}
 use Rattle.mailbox_core.specs.Together.{ComesBehind}
 use Rattle.mailbox_core.proofs.Together.{comes_joined, comes_none, comes_nothing, comes_then}
 use Rattle.mailbox_core.specs.Sending.{AreDue, HasWrittenBox, IsSessionQuiet, SendsAll, SendsSome}
-use Rattle.mailbox_core.specs.Sending.{SendsUntilFull, WritesSo, WritesSome}
+use Rattle.mailbox_core.specs.Sending.{SendsUntilFull, WritesSome}
 use Rattle.sync_course.specs.LinkTurns.{out_batch}
 use Rattle.mailbox_core.specs.Sending.{out_batches}
 use Rattle.mailbox_core.specs.Steps.{BeginsSo, CommitsDue, HasBegunSession, HasPut, HasPutAll}

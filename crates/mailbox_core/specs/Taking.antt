@@ -8,7 +8,6 @@ use Rattle.sync_rules.specs.declared.entries.Session.{Session}
 use Rattle.sync_rules.specs.Clients.{Meaning}
 use Rattle.sync_rules.specs.Facts.{Facts, after, after_all, after_batches}
 use Rattle.sync_rules.specs.Legal.{AllSettling}
-use Rattle.sync_rules.specs.Sessions.{taken}
 use Rattle.sync_rules.specs.Steps.{IsSettled}
 use Rattle.sync_rules.specs.Hearing.{take_batch}
 use Rattle.sync_store.specs.Commits.{needed}

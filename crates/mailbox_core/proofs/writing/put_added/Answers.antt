@@ -1,4 +1,4 @@
-use Rattle.std.proofs.Common.{◌≡◌, false, Ok, Err, sym, ap, ◌∙◌}
+use Rattle.std.proofs.Common.{Ok, Err, sym, ◌∙◌}
 use Rattle.sync_store.specs.declared.fault.StoreFault.TheVariants as fault
 use Rattle.sync_store.proofs.Behind.{flush_behind}
 use Rattle.sync_store.proofs.Gathered.{gathering_none}

@@ -1,4 +1,4 @@
-use Rattle.std.proofs.Common.{◌≡◌, true, false, Ok, Err, sym, ap, ◌∙◌}
+use Rattle.std.proofs.Common.{Ok, Err, sym, ap, ◌∙◌}
 use Rattle.sync_store.specs.Store.{StoreValue}
 use Rattle.sync_store.proofs.Behind.{flush_behind}
 use Rattle.mailbox_core.proofs.Joined.{closed_so, rose_behind}
