@@ -1,29 +1,17 @@
 -- What a run of a command reads and writes, and what it comes to.
-use Rattle.std.specs.Prelude.{◌≡◌, ℕ, ◌+◌, ◌≤◌, ◌⊎◌, List, Option, None, Some, length, take}
-use Rattle.std.specs.Io.KnownBytes.{Consumes, Appends, IsAtEnd}
-use Rattle.outside.specs.Faults.{CountRose}
+use Rattle.std.specs.Prelude.{◌≡◌, ◌⊎◌, Some}
 use Rattle.outside.specs.Files.{Two, File}
 use Rattle.outside.specs.Outside.{Outside, DiskRun}
-use Rattle.record_grammar.specs.Stream.{ending, items, records_of}
-use Rattle.record_grammar.specs.declared.stream.Ending.{Ending}
-use Rattle.record_grammar.specs.declared.stream.Ending.TheVariants as ends
-use Rattle.record_grammar.specs.declared.stream.Item.{Item}
-use Rattle.journal_play.specs.Playing.{Played, HasPlayed, IsTextOf}
-use Rattle.sync_ids.specs.Values.{GroupValue}
-use Rattle.sync_ids.specs.declared.records.Record.{Record}
-use Rattle.sync_rules.specs.declared.states.Refused.TheVariants as refused
+use Rattle.record_grammar.specs.Stream.{items}
 use Rattle.sync_rules.specs.Clients.{Meaning}
 use Rattle.store_commands.specs.Show.{FilesReadSame, LeavesFilesSo}
 use Rattle.sync_run.specs.Headline.{Headline}
-use Rattle.stream_commands.specs.declared.input.TheConstants.{MAX_INPUT}
-use Rattle.stream_commands.specs.declared.input.Stop.{Stop}
-use Rattle.stream_commands.specs.declared.input.Stop.TheVariants as stop
 use Rattle.sync_words.specs.declared.status.Status.{Status}
 use Rattle.sync_words.specs.declared.outcome.Outcome.{Outcome}
 use Rattle.sync_words.specs.declared.outcome.Outcome.TheVariants as outcome
 use Rattle.sync_words.specs.Outcomes.{status_of, text_of}
-use Rattle.outside.specs.Streams.{Stream, IsIdle, GetsFront, GetsText}
-use Rattle.stream_commands.specs.Streams.{UntouchedStreams}
+use Rattle.outside.specs.Streams.{Stream, GetsText}
+use Rattle.stream_commands.specs.Streams.{EndsAtOnce, Streams, TriesClient, UntouchedStreams}
 use Rattle.sync_top.specs.Duties.{duty_of}
 use Rattle.stream_commands.specs.RecordText.{items_text}
 use Rattle.commands.specs.Reading.{Asked}
