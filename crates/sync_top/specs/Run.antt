@@ -2,7 +2,6 @@
 use Rattle.std.specs.Prelude.{◌≡◌, ◌⊎◌, Some}
 use Rattle.outside.specs.Files.{Two, File}
 use Rattle.outside.specs.Outside.{Outside, DiskRun}
-use Rattle.record_grammar.specs.Stream.{items}
 use Rattle.sync_rules.specs.Clients.{Meaning}
 use Rattle.store_commands.specs.Show.{FilesReadSame, LeavesFilesSo}
 use Rattle.sync_run.specs.Headline.{Headline}
