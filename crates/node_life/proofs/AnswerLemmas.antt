@@ -1,6 +1,6 @@
 -- What is said of commands, and what stands behind them.
-use Rattle.std.proofs.Common.{◌≡◌, ℕ, ◌≤◌, Bool, true, false, List, [], refl, sym, ap, ◌∙◌, subst, inl, inr}
-use Rattle.std.proofs.Common.{Option, Some, Result, Ok, Err}
+use Rattle.std.proofs.Common.{◌≡◌, ℕ, Bool, true, false, List, [], refl, sym, ap, ◌∙◌, subst, inl, inr}
+use Rattle.std.proofs.Common.{Some, Ok, Err}
 use Rattle.std.specs.Prelude.{◌⊎◌}
 use Rattle.outside.specs.Outside.{Outside}
 use Rattle.outside.specs.Streams.{Stream}
@@ -9,20 +9,19 @@ use Rattle.sync_rules.specs.Clients.{Meaning}
 use Rattle.sync_store.specs.Store.{StoreValue}
 use Rattle.sync_words.specs.declared.outcome.Outcome.{Outcome}
 use Rattle.sync_words.specs.declared.outcome.Outcome.TheVariants as outcome
-use Rattle.commands.specs.Reading.{Asked, IsCommandWithin, asks, words_came}
-use Rattle.commands.specs.Reading.Asked.{Do, Usage}
+use Rattle.commands.specs.Reading.{Asked, words_came}
+use Rattle.commands.specs.Reading.Asked.{Do}
 use Rattle.commands.specs.declared.command.Command.{Command}
 use Rattle.commands.specs.declared.command.Command.TheVariants as command
 use Rattle.commands.specs.declared.fault.WordsFault.{WordsFault}
 use Rattle.commands.specs.declared.fault.WordsFault.TheVariants as fault
 use Rattle.store_commands.specs.Serving.{IsReadyToServe, ServesOn}
-use Rattle.stream_commands.specs.Streams.{TriesClient}
-use Rattle.node_service.specs.Words.{AreWords, IsAskedBy, WordsAsk, parts_of}
+use Rattle.node_service.specs.Words.{AreWords, IsAskedBy, parts_of}
 use Rattle.node_service.specs.declared.node.Reply.{Reply}
 use Rattle.node_requests.specs.Requests.{DoesRequest, is_done_by_node}
 use Rattle.node_life.specs.Inputs.{ReadsGiven}
-use Rattle.node_life.specs.Requests.{Answers, AnswersAsked, AnswersOr, AnswersRequest, AnswersSettled}
-use Rattle.node_life.specs.Requests.{AnswersWords, AreStreams, Said, StaysReady, StaysUnsettled}
+use Rattle.node_life.specs.Requests.{AnswersAsked, AnswersOr, AnswersRequest, AnswersSettled}
+use Rattle.node_life.specs.Requests.{AreStreams, Said, StaysReady, StaysUnsettled}
 use Rattle.node_life.specs.Requests.{bare, said_by, said_of}
 use Rattle.node_life.specs.Settling.{HasSettled, StandsNow}
 use Rattle.node_life.proofs.SettleLemmas.{stands_ready}

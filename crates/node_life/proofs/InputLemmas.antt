@@ -64,17 +64,16 @@ front_read bytes buf copied more n len is_copied is_n is_len some =
     let front : take n (copied ++ drop n buf) ≡ take n bytes =
     take_at copied (drop n buf) n long ∙ is_copied in
     let rest : take (length bytes - n) (drop n bytes) ≡ drop n bytes =
-    take_all (length bytes - n) (drop n bytes) (omega (arith, length-drop n bytes)) in
-    (
+    take_all (length bytes - n) (drop n bytes) (omega (arith, length-drop n bytes)) in (
       ap (λ (l : List ℕ). l ++ more) (sym (take-append-drop n bytes))
           ∙ append_assoc (take n bytes) (drop n bytes) more
           ∙ ap (λ (l : List ℕ). l ++ (drop n bytes ++ more)) (sym front)
           ∙ ap (λ (l : List ℕ). take n (copied ++ drop n buf) ++ (l ++ more)) (sym rest),
       λ none room.
-      let empty : length copied ≡ 0 = long ∙ none in
-      let all : length (copied ++ drop n buf) ≡ length buf =
-      length-append copied (drop n buf) ∙ omega (arith, length-drop n buf, empty, none) in
-      absurd (omega (arith, is_n, is_len, some, none, all, room)),
+          let empty : length copied ≡ 0 = long ∙ none in
+          let all : length (copied ++ drop n buf) ≡ length buf =
+          length-append copied (drop n buf) ∙ omega (arith, length-drop n buf, empty, none) in
+          absurd (omega (arith, is_n, is_len, some, none, all, room)),
     )
 
 none_left : (bytes : List ℕ) → length bytes ≡ 0 → bytes ≡ []
@@ -94,8 +93,7 @@ filling_read bytes buf filled filling n k no_bytes is_filled is_k is_n =
     let long : length filled ≡ n = ap length same ∙ length-replicate n 255 in
     let front : take n (filled ++ drop n buf) ≡ replicate n 255 =
     take_at filled (drop n buf) n long ∙ same in
-    let count : n + (filling - n) ≡ filling = omega (arith, is_n) in
-    (
+    let count : n + (filling - n) ≡ filling = omega (arith, is_n) in (
       ap (λ (l : List ℕ). l ++ replicate filling 255) none
           ∙ ap (λ (x : ℕ). replicate x 255) (sym count)
           ∙ sym (replicate-append-replicate n (filling - n) 255)
@@ -103,12 +101,12 @@ filling_read bytes buf filled filling n k no_bytes is_filled is_k is_n =
           ∙ ap (λ (l : List ℕ).
           take n (filled ++ drop n buf) ++ (l ++ replicate (filling - n) 255)) (sym none),
       λ zero_is room.
-      let empty : length filled ≡ 0 = long ∙ zero_is in
-      let all : length (filled ++ drop n buf) ≡ length buf =
-      length-append filled (drop n buf) ∙ omega (arith, length-drop n buf, empty, zero_is) in
-      let nothing : filling - n ≡ 0 = omega (arith, is_n, zero_is, all, room) in
-      ap (λ (l : List ℕ). l ++ replicate (filling - n) 255) none
-      ∙ ap (λ (x : ℕ). replicate x 255) nothing,
+          let empty : length filled ≡ 0 = long ∙ zero_is in
+          let all : length (filled ++ drop n buf) ≡ length buf =
+          length-append filled (drop n buf) ∙ omega (arith, length-drop n buf, empty, zero_is) in
+          let nothing : filling - n ≡ 0 = omega (arith, is_n, zero_is, all, room) in
+          ap (λ (l : List ℕ). l ++ replicate (filling - n) 255) none
+          ∙ ap (λ (x : ℕ). replicate x 255) nothing,
     )
 
 -- ---- commands over other streams

@@ -1,25 +1,22 @@
 -- What each moment of a life leaves.
-use Rattle.std.proofs.Common.{◌≡◌, false, List, [], ◌∷◌, ◌++◌, refl, sym, ap, ◌∙◌, subst, inl, inr, Option, Some}
+use Rattle.std.proofs.Common.{◌≡◌, List, [], ◌∷◌, ◌++◌, refl, sym, ap, ◌∙◌, subst, inl, inr, Option, Some}
 use Rattle.std.specs.Prelude.{◌⊎◌}
 use Rattle.outside.specs.Files.{File, Two, read_files}
 use Rattle.outside.specs.Outside.{IsNow, Moment, MomentsAre, Outside}
 use Rattle.outside.specs.Streams.{Stream}
 use Rattle.outside.proofs.CallSteps.{moments_map, moments_none, moments_then, run_none, told_on}
-use Rattle.request_frames.specs.Requests.{Request}
 use Rattle.sync_rules.specs.Clients.{Meaning}
 use Rattle.sync_rules.specs.Facts.{Journal}
-use Rattle.sync_rules.specs.Hearing.{SettlesJournal}
-use Rattle.entry_codec.specs.Standing.{journal}
 use Rattle.file_standing.specs.Standing.{stands}
 use Rattle.sync_words.specs.declared.outcome.Outcome.{Outcome}
 use Rattle.sync_words.specs.declared.outcome.Outcome.TheVariants as outcome
-use Rattle.store_commands.specs.Commit.{OnceSettled, StandsSynced}
+use Rattle.store_commands.specs.Commit.{StandsSynced}
 use Rattle.store_commands.specs.Stopping.{StoodFor}
 use Rattle.node_service.specs.Lives.{Answered, AnsweredOn, GoOnToLast, HasLived, last_of, requests_of}
 use Rattle.node_life.specs.Requests.{AnswersRequest}
-use Rattle.node_life.specs.Serving.{BeginsNot, HasServed, LivesOn}
+use Rattle.node_life.specs.Serving.{LivesOn}
 use Rattle.node_life.specs.Settling.{HasBegun}
-use Rattle.node_life.specs.Ways.{IsOnWay, IsOnWayThrough, StandsInLife}
+use Rattle.node_life.specs.Ways.{IsOnWayThrough, StandsInLife}
 use Rattle.node_life.proofs.SettleLemmas.{begins_not}
 use Rattle.node_life.proofs.WayLemmas.{Reached, image_stands, request_end, request_told, request_way}
 

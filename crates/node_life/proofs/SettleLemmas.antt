@@ -1,25 +1,23 @@
 -- A journal that is settled alone.
-use Rattle.std.proofs.Common.{◌≡◌, ℕ, ◌+◌, ◌≤◌, List, [], ◌++◌, refl, sym, ap, ◌∙◌, subst, inl, inr}
+use Rattle.std.proofs.Common.{◌≡◌, ℕ, List, [], ◌++◌, refl, sym, ap, ◌∙◌, subst}
 use Rattle.std.proofs.Common.{append-nil, arith, add-zero, Option, None, Some, Result, Ok, Err}
 use Rattle.std.specs.Prelude.{IsErrAnd, IsErrOf}
 use Rattle.std.specs.Io.KnownBytes.{Appends}
-use Rattle.outside.specs.declared.limits.TheConstants.{MAX_JOURNAL}
 use Rattle.outside.specs.Files.{File, Two, read_files}
 use Rattle.outside.specs.Outside.{DiskRun, Outside}
 use Rattle.outside.specs.Streams.{Stream}
 use Rattle.outside.proofs.CallSteps.{run_none}
-use Rattle.entry_codec.specs.declared.naming.Format.TheVariants as kind
 use Rattle.file_standing.specs.Standing.{stands}
 use Rattle.sync_rules.specs.Clients.{Meaning}
 use Rattle.sync_rules.specs.Facts.{Facts, after_batches}
 use Rattle.sync_rules.specs.Steps.{IsSettled}
-use Rattle.sync_store.specs.Store.{StoreValue, written_in}
+use Rattle.sync_store.specs.Store.{StoreValue}
 use Rattle.sync_words.specs.declared.outcome.Outcome.{Outcome}
 use Rattle.sync_words.specs.declared.outcome.Outcome.TheVariants as outcome
 use Rattle.sync_words.specs.Outcomes.{came_to}
 use Rattle.store_commands.specs.Commit.{ExtendsBy, SettlesAnew, StoreStaysReady}
-use Rattle.store_commands.specs.Load.{HasFacts, IsLoaded, LoadedBy, LoadKeeps, MayExtend}
-use Rattle.store_commands.specs.Serving.{IsReadyToServe, IsServed, ServesOn, WasLoaded}
+use Rattle.store_commands.specs.Load.{IsLoaded, LoadedBy, LoadKeeps, MayExtend}
+use Rattle.store_commands.specs.Serving.{IsReadyToServe}
 use Rattle.store_commands.specs.Show.{LeavesFilesSo}
 use Rattle.store_commands.specs.Works.{RunsWork}
 use Rattle.store_commands.proofs.Adds.{settled_fits, settles_from}
@@ -53,8 +51,7 @@ module _ (clients : Meaning) (s s1 : StoreValue) (o o1 : Outside) (out : Stream)
           settling_moments clients outcome.Done (settling_alone clients) j (λ whole settles. settles)
           s s1 o o1 (Ok u) two files fits settled;
       ends = λ two1 files1.
-          let fits1 = settled_fits clients o o1 s s1 u two two1 j files files1 fits settled in
-          (
+          let fits1 = settled_fits clients o o1 s s1 u two two1 j files files1 fits settled in (
             record {
               first = settled.more;
               settles = settles_from clients s two j settled.more fits settled.comes.settling;

@@ -1,12 +1,12 @@
 -- What each moment of a request leaves.
-use Rattle.std.proofs.Common.{◌≡◌, ℕ, ◌≤◌, Bool, true, false, List, [], ◌∷◌, ◌++◌, append-nil, refl, sym, ap}
-use Rattle.std.proofs.Common.{◌∙◌, subst, inl, inr, Option, None, Some, arith}
+use Rattle.std.proofs.Common.{◌≡◌, ℕ, Bool, true, false, List, [], ◌++◌, append-nil, refl, sym, ap}
+use Rattle.std.proofs.Common.{◌∙◌, subst, inl, inr, Option, Some}
 use Rattle.std.specs.Prelude.{◌⊎◌, is_some}
 use Rattle.std.specs.Io.KnownBytes.{Appends}
-use Rattle.outside.specs.Files.{File, IsFileImage, IsImage, NothingPending, Two, read_files, settled}
+use Rattle.outside.specs.Files.{File, IsFileImage, IsImage, Two, read_files}
 use Rattle.outside.specs.Links.{sent_of}
 use Rattle.outside.specs.Outside.{IsNow, Moment, MomentsAre, Outside}
-use Rattle.outside.specs.Streams.{IsIdle, Stream}
+use Rattle.outside.specs.Streams.{Stream}
 use Rattle.outside.proofs.Calm.{settled_only}
 use Rattle.outside.proofs.CallSteps.{moments_map, moments_none, moments_then, told_on}
 use Rattle.request_frames.specs.Requests.{Request}
@@ -18,7 +18,6 @@ use Rattle.sync_rules.specs.Hearing.{SettlesJournal}
 use Rattle.entry_codec.specs.Standing.{Standing, journal, no_store}
 use Rattle.file_standing.specs.Standing.{stands}
 use Rattle.sync_store.specs.Begin.{InitMoment}
-use Rattle.sync_store.specs.Moments.{JournalMoment}
 use Rattle.sync_words.specs.declared.outcome.Outcome.{Outcome}
 use Rattle.sync_words.specs.declared.outcome.Outcome.TheVariants as outcome
 use Rattle.commands.specs.Reading.{Asked, asks}
@@ -26,25 +25,23 @@ use Rattle.commands.specs.Reading.Asked.{Do, Usage}
 use Rattle.commands.specs.declared.command.Command.{Command}
 use Rattle.commands.specs.declared.command.Command.TheVariants as command
 use Rattle.store_commands.specs.Commit.{OnceSettled, StandsSynced}
-use Rattle.store_commands.specs.Init.{HasBegun}
 use Rattle.store_commands.specs.Looking.{HasLooked}
-use Rattle.store_commands.specs.Post.{HasPosted, IsBody, PostStops, PostsBody}
+use Rattle.store_commands.specs.Post.{HasPosted, PostStops, PostsBody}
 use Rattle.store_commands.specs.Shown.{Showing}
-use Rattle.store_commands.specs.Stopping.{StoodFor, StopsEarly}
+use Rattle.store_commands.specs.Stopping.{StopsEarly}
 use Rattle.store_commands.specs.Works.{DoesWork, HasWorked, Work}
 use Rattle.audit_commands.specs.Audits.{HasAudited}
 use Rattle.status_commands.specs.Statuses.{HasToldStatus}
-use Rattle.mailbox_commands.specs.declared.sending.Sending.{Sending}
 use Rattle.mailbox_commands.specs.Sending.{HasSentMail}
 use Rattle.mailbox_commands.specs.Taking.{HasTakenMail}
 use Rattle.node_service.specs.Words.{AreWords, parts_of}
 use Rattle.node_requests.specs.Requests.{DoesRequest, sending_of}
 use Rattle.node_life.specs.Inputs.{ReadsGiven}
-use Rattle.node_life.specs.Requests.{Answers, AnswersAsked, AnswersRequest, AnswersSettled, Said}
+use Rattle.node_life.specs.Requests.{AnswersAsked, AnswersRequest, AnswersSettled, Said}
 use Rattle.node_life.specs.Requests.{StaysUnsettled}
-use Rattle.node_life.specs.Settling.{HasSettled, StandsForOne, StandsNow, settling_alone}
+use Rattle.node_life.specs.Settling.{HasSettled}
 use Rattle.node_life.proofs.BegunLemmas.{no_store_there}
-use Rattle.node_life.specs.Ways.{GoesOnBy, GoesOnByWords, IsOnWay, ReadsOf}
+use Rattle.node_life.specs.Ways.{GoesOnBy, IsOnWay}
 
 -- ---- files that stand for one journal
 
@@ -491,8 +488,7 @@ module _ {H : Type 0} (tells : H → Outside) (clients : Meaning) (request : Req
         request_way files' in
         let same : one.of ≡ reached.whole =
         one_journal (stands clients (read_files two')) reached.whole one.of reached.stands_for
-        one.synced.stands_for in
-        (
+        one.synced.stands_for in (
           one.of,
           subst (λ (k : Journal). IsOnWay clients request j k) (sym same) reached.has,
           one.synced,

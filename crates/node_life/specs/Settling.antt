@@ -1,6 +1,6 @@
 -- A journal that is settled, and nothing else: how a node begins, and what it does before each
 -- request that uses its store.
-use Rattle.std.specs.Prelude.{◌≡◌, ℕ, List, [], Some, None}
+use Rattle.std.specs.Prelude.{◌≡◌, [], Some, None}
 use Rattle.outside.specs.Files.{File, Two}
 use Rattle.outside.specs.Outside.{DiskRun, Outside}
 use Rattle.outside.specs.Streams.{Stream}

@@ -19,7 +19,6 @@ use Rattle.store_commands.specs.Entries.{adding}
 use Rattle.store_commands.specs.Errands.{running}
 use Rattle.store_commands.specs.Plans.{contact_plan, group_plan, level_plan, post_plan}
 use Rattle.store_commands.specs.Post.{IsBody, posted_message}
-use Rattle.store_commands.specs.Works.{Work}
 use Rattle.sharing_commands.specs.Agreeing.{agreement}
 use Rattle.sharing_commands.specs.Sayings.{say_plan}
 use Rattle.mailbox_commands.specs.Sending.{out_errand}

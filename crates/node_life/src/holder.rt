@@ -59,7 +59,16 @@ impl<'a, C: Clients, H: Host> Node<H> for Holder<'a, C> {
                 let (alloc, hasher) = (self.alloc, self.hasher);
                 let store = &mut self.store;
                 answer_command(
-                    alloc, hasher, store, asked, size, most, kept, host, out, self.clients,
+                    alloc,
+                    hasher,
+                    store,
+                    asked,
+                    size,
+                    most,
+                    kept,
+                    host,
+                    out,
+                    self.clients,
                 )
             }
             Err(fault) => nothing_done(Outcome::from(fault)),

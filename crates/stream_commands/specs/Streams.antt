@@ -102,4 +102,3 @@ TriesClient clients name descriptor (Some kind) input input' out out' came =
     Streams (λ items text.
     IsTextOf clients (record { name = name; major = 0; descriptor = descriptor })
     (records_of items) text) input input' out out' came
-

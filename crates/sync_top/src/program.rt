@@ -18,17 +18,17 @@ use crate::laws::{lives_are_sound, runs_are_sound};
 use audit_commands::print_audit;
 use commands::{Command, read_words};
 use journal_play::play_says;
-use node_life::serve_requests;
 use mailbox_commands::{Sending, send_mail, take_mail};
+use node_life::serve_requests;
 use outside::{Host, Sink, Source, write_text};
 use sharing_commands::{Speech, agree, say};
 use status_commands::print_status;
-use stream_commands::{group_of, list_records, try_group};
 use std::alloc::Global;
 use std::hash::RandomState;
 use store_commands::{
     Listing, add_contact, add_group, compact, list, make_store, post_message, set_level, write_body,
 };
+use stream_commands::{group_of, list_records, try_group};
 use sync_ids::{GroupDef, GroupId};
 use sync_rules::Clients;
 use sync_run::{Limits, sync_links};

@@ -212,7 +212,9 @@ impl Case {
 
     /// Whether a call is to fail.
     pub(crate) fn fails(&self) -> bool {
-        self.prepared.iter().any(|line| line.as_str().starts_with("fail"))
+        self.prepared
+            .iter()
+            .any(|line| line.as_str().starts_with("fail"))
     }
 
     // What is read of words is told.

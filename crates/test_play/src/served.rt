@@ -136,7 +136,10 @@ pub(crate) fn compare(
 fn answers_alike(alloc: Global, came: &Came, by_itself: &Came) -> Result<bool> {
     let (out, err) = (by_itself.out_bytes(), by_itself.err_bytes());
     let line = format!(in alloc; "{} {} {}\n", by_itself.status, out.len(), err.len())?;
-    let rest = came.out_bytes().strip_prefix(GREETING).context("no greeting")?;
+    let rest = came
+        .out_bytes()
+        .strip_prefix(GREETING)
+        .context("no greeting")?;
     let rest = rest.strip_prefix(line.as_bytes());
     let rest = rest.and_then(|rest| rest.strip_prefix(out));
     Ok(rest == Some(err) && came.leaves(by_itself.disk()))

@@ -1,6 +1,5 @@
-use Rattle.std.proofs.Common.{◌≡◌, Bool, false, true, List, sym, ◌∙◌, subst, refl, inr, rules}
+use Rattle.std.proofs.Common.{sym, ◌∙◌, subst, refl, inr, rules}
 use Rattle.request_frames.specs.declared.head.InputSize.{InputSize}
-use Rattle.request_frames.specs.declared.head.InputSize.TheVariants as size
 use Rattle.node_life.specs.Inputs.{ReadsGiven, failing_told, given_told}
 use Rattle.commands.specs.Reading.Asked.{Do}
 use Rattle.node_life.specs.Requests.{AnswersAsked, said_by}

@@ -1,7 +1,7 @@
 use Rattle.std.proofs.Common.{ap, Err, Ok}
 use Rattle.sync_words.specs.declared.outcome.Outcome.{Outcome}
 use Rattle.node_life.specs.Settling.{HasBegun}
-use Rattle.node_life.proofs.SettleLemmas.{begins_loaded, begins_not, not_loaded, not_settled, on_err}
+use Rattle.node_life.proofs.SettleLemmas.{begins_loaded, begins_not, on_err}
 use Rattle.node_life.proofs.life.begin.Goals as goal
 
 pub returns-in_err-store-clause-begun : goal.returns-in_err-store-clause-begun

@@ -1,4 +1,4 @@
-use Rattle.std.proofs.Common.{◌≡◌, ◌-◌, ℕ, refl, sym, rules, length, take}
+use Rattle.std.proofs.Common.{refl, rules}
 use Rattle.std.specs.Prelude.{replicate}
 use Rattle.node_life.specs.declared.input.TheConstants.{NO_RECORD}
 use Rattle.node_life.proofs.InputLemmas.{filling_read, front_read}
