@@ -1,42 +1,37 @@
 -- A node that serves, as a command: its journals are sound, and it damages no store.
 use Rattle.std.proofs.Common.{◌≡◌, ℕ, zero, suc, List, [], ◌∷◌, ◌++◌, append_assoc, refl, sym, ap, ◌∙◌}
-use Rattle.std.proofs.Common.{subst, inl, inr, Some, Result, Err}
+use Rattle.std.proofs.Common.{subst, inl, inr, Err}
 use Rattle.std.specs.Prelude.{◌⊎◌}
-use Rattle.outside.specs.Files.{File, IsImage, Two, read_files}
-use Rattle.outside.specs.Outside.{IsNow, Moment, MomentsAre, Outside}
-use Rattle.outside.specs.Streams.{IsIdle, Stream}
-use Rattle.outside.proofs.CallSteps.{moments_map, moments_none}
+use Rattle.outside.specs.Files.{Two}
+use Rattle.outside.specs.Outside.{Outside}
+use Rattle.outside.specs.Streams.{Stream}
+use Rattle.outside.proofs.CallSteps.{moments_map}
 use Rattle.request_frames.specs.Requests.{Request}
 use Rattle.sync_rules.specs.declared.entries.Entry.{Entry}
 use Rattle.sync_rules.specs.Clients.{Meaning}
-use Rattle.sync_rules.specs.Facts.{ExtendsJournal, Journal, facts}
+use Rattle.sync_rules.specs.Facts.{ExtendsJournal, Journal}
 use Rattle.sync_rules.specs.Hearing.{SettlesJournal}
 use Rattle.brief_account.specs.Brief.{brief}
-use Rattle.entry_codec.specs.Standing.{journal}
-use Rattle.file_standing.specs.Standing.{stands}
 use Rattle.sync_words.specs.declared.outcome.Outcome.{Outcome}
-use Rattle.sync_words.specs.declared.outcome.Outcome.TheVariants as outcome
 use Rattle.commands.specs.Reading.{Asked, IsReadAs, words_came}
 use Rattle.commands.specs.Reading.Asked.{Do, Usage}
 use Rattle.commands.specs.declared.command.Command.{Command}
 use Rattle.commands.specs.declared.command.Command.TheVariants as command
 use Rattle.commands.specs.declared.fault.WordsFault.{WordsFault}
 use Rattle.commands.specs.declared.fault.WordsFault.TheVariants as fault
-use Rattle.store_commands.specs.Commit.{GoesOnByBatch, OnceSettled}
+use Rattle.store_commands.specs.Commit.{GoesOnByBatch}
 use Rattle.store_commands.specs.Compact.{GoesBrief}
 use Rattle.store_commands.specs.Entries.{WhenAdds}
 use Rattle.store_commands.specs.Errands.{Errand, ErrandOn}
 use Rattle.store_commands.specs.Plans.{EntryPlan, adds, refuses}
-use Rattle.store_commands.specs.Stopping.{StoodFor}
 use Rattle.node_service.specs.Lives.{requests_of}
-use Rattle.node_life.specs.Serving.{BeginsNot, HasServed, LivesOn}
-use Rattle.node_life.specs.Settling.{HasBegun, settling_alone}
+use Rattle.node_life.specs.Serving.{HasServed}
 use Rattle.node_life.specs.Ways.{GoesOnBy, IsOnWay, IsOnWayThrough, StandsInLife}
 use Rattle.node_life.proofs.LifeLemmas.{begins_nothing, begun_moments}
 use Rattle.sync_top.specs.Lives.{ServesAs}
-use Rattle.sync_top.specs.Run.{AsksServe, WordsComeTo}
+use Rattle.sync_top.specs.Run.{AsksServe}
 use Rattle.sync_top.specs.Sound.{GoesOnThrough, LifeOpens, LivesAreSound, OpensInLife}
-use Rattle.sync_top.specs.Undamaged.{StandsForJournal, Undamaged}
+use Rattle.sync_top.specs.Undamaged.{Undamaged}
 
 -- ---- how a journal goes on
 

@@ -12,7 +12,6 @@ use Rattle.outside.specs.Streams.{Stream, IsIdle}
 use Rattle.record_grammar.specs.Stream.{ending, items, records, records_of}
 use Rattle.record_grammar.specs.declared.stream.Ending.{Ending}
 use Rattle.record_grammar.specs.declared.stream.Ending.TheVariants as ends
-use Rattle.record_grammar.specs.declared.stream.Item.{Item}
 use Rattle.journal_play.specs.Fates.{SaysFates}
 use Rattle.journal_play.specs.Playing.{IsTextOf}
 use Rattle.sync_ids.specs.Ids.{group_id_of}

@@ -1,5 +1,5 @@
 -- What each command of a store is to come to, and what serves it.
-use Rattle.std.specs.Prelude.{◌≡◌, ℕ, Bool, false, List, Option, Some, None}
+use Rattle.std.specs.Prelude.{◌≡◌, ℕ, false, List, Option, Some, None}
 use Rattle.outside.specs.Files.{Two, File}
 use Rattle.outside.specs.Host.{ReadsClock}
 use Rattle.outside.specs.Outside.{Outside}
