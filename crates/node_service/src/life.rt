@@ -161,7 +161,6 @@ pub fn serve<N: Node<H>, H: Host, S: Source, W: Sink>(
             Came::End(Ending::Inside) => return Outcome::Done,
             Came::ReadFault => return Outcome::ReadFault,
             Came::TooMuch => return Outcome::TooMuch,
-            Came::Memory => return Outcome::Memory,
         }
     }
     Outcome::TooMuch
