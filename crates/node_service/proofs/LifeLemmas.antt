@@ -23,7 +23,6 @@ use Rattle.node_service.specs.declared.ear.Came.{Came}
 use Rattle.node_service.specs.declared.ear.Came.TheVariants as came
 use Rattle.node_service.specs.declared.life.Stop.{Stop}
 use Rattle.node_service.specs.declared.life.Stop.TheVariants as stop
-use Rattle.node_service.specs.declared.life.Untold.TheVariants as untold
 use Rattle.node_service.proofs.EarLemmas.{consumes_both, stands_told}
 use Rattle.node_service.proofs.TellLemmas.{appends_both, front_behind, keeps_whole, rose_later}
 use Rattle.request_frames.specs.Laws.{KeepsOf}
@@ -32,16 +31,9 @@ use Rattle.request_frames.specs.declared.reader.Ending.{Ending}
 use Rattle.request_frames.specs.declared.reader.Ending.TheVariants as ends
 use Rattle.node_service.specs.declared.ear.Ear.{Ear}
 
-appends_none : (b : Option (List ℕ)) → Appends b b []
-appends_none None = tt
-appends_none (Some xs) = sym (append-nil xs)
-
 consumes_none : (b : Option (List ℕ)) → Consumes b b []
 consumes_none None = tt
 consumes_none (Some xs) = refl
-
-appends_same : (b c : Option (List ℕ)) → c ≡ b → Appends b c []
-appends_same b c is = subst (λ (x : Option (List ℕ)). Appends b x []) (sym is) (appends_none b)
 
 -- no memory was found at first
 pub lived_none : {H : Type 0} (answers : Answers H) (o : H) (input out : Stream)
@@ -56,10 +48,10 @@ lived_none {H} answers o input out = record {
   later = requests [];
   requests_are = refl;
   ended = inr (record {
-    got = [];
-    rest = life_text {H = H} [];
-    front = refl;
-    appended = appends_none out.bytes;
+    none_read = refl;
+    none_answered = refl;
+    unread = record { same = refl; same_faults = refl };
+    quiet = record { same = refl; same_faults = refl };
   });
 }
 
@@ -264,16 +256,6 @@ module _ {H : Type 0} (first now : Answers H) (old host : H) (input input' input
         l.told,
       )
 
-  pub ends_memory : c ≡ came.Memory → HasLived first old host input input2 out out' outcome.Memory
-  ends_memory is =
-      let b = by came.Memory is in
-      ends_by out' outcome.Memory b.later b.requests_are (record {
-        got = life_text l.answered;
-        rest = [];
-        front = sym (append-nil (life_text l.answered));
-        appended = l.told;
-      })
-
   -- what follows is no request
   ends_fault : (out2 : Stream) → requests all ≡ requests_of l.answered → ending all ≡ ends.Fault
       → (r : Outcome) → TellsFault out' out2 r → HasLived first old host input input2 out out2 r
@@ -293,14 +275,6 @@ module _ {H : Type 0} (first now : Answers H) (old host : H) (input input' input
         more = fault_answer;
         more_is = inr (refl, fault);
         told = front_behind out out' out2 (life_text l.answered) fault_answer l.told told.1;
-      })
-  ends_fault out2 are fault outcome.Memory told =
-      ends_by out2 outcome.Memory [] (none_later are) (record {
-        got = life_text l.answered;
-        rest = [];
-        front = sym (append-nil (life_text l.answered));
-        appended = subst (λ (b : Option (List ℕ)).
-            Appends out.bytes b (life_text l.answered)) (sym told.same) l.told;
       })
   ends_fault out2 are fault _ told = absurd told
 
@@ -425,16 +399,10 @@ module _ {H : Type 0} (first now : Answers H) (old host : H) (input input' input
             is = t.1;
             told = told_then t.2;
           }))
-          by_why (stop.Untold untold.Failed) t = lived_then outcome.WriteFault (inr (record {
+          by_why stop.Untold t = lived_then outcome.WriteFault (inr (record {
             rose = rose_later out.faults out'.faults out2.faults l.out_later t.0;
             more = [];
             more_is = inl refl;
             told = subst (λ (s : List ℕ). GetsFront out out2 s) (sym (append-nil (life_text more)))
                 (front_then t.1);
           }))
-          by_why (stop.Untold untold.Memory) t = lived_then outcome.Memory (inr (front_then (record {
-            got = [];
-            rest = spelled_answer n.a.came n.a.out;
-            front = refl;
-            appended = appends_same out'.bytes out2.bytes t.same;
-          })))

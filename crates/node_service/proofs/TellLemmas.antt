@@ -16,8 +16,7 @@ use Rattle.request_frames.specs.declared.reader.Stage.{Stage}
 use Rattle.request_frames.specs.declared.reader.Stage.TheVariants as stage
 use Rattle.sync_words.specs.declared.outcome.Outcome.{Outcome}
 use Rattle.node_service.specs.Lives.{Answers, spelled_answer}
-use Rattle.node_service.specs.Serving.{AnswersNext, EndsAs, TellsSo, ToldNext, WritesText}
-use Rattle.node_service.specs.declared.life.Untold.{Untold}
+use Rattle.node_service.specs.Serving.{AnswersNext, EndsAs, ToldNext, WritesFront, WritesText}
 use Rattle.node_service.specs.declared.life.Stop.{Stop}
 use Rattle.node_service.specs.declared.life.Stop.TheVariants as stop
 
@@ -108,7 +107,7 @@ module _ {H : Type 0} (answers : Answers H) (request : Request) (old new : H) (c
       → ToldNext (record { request = request; after = new; came = came; out = shown; ends = ends }) o o' r
   told_ended (Ok u) is told = (is, told)
   told_ended (Err (stop.With with)) is told = (is.0, is.1, told)
-  told_ended (Err (stop.Untold why)) is told = absurd is
+  told_ended (Err stop.Untold) is told = absurd is
 
   -- its answer was told
   pub next_told : (r : Result (Unit {0}) Stop) → EndsAs ends came r
@@ -121,16 +120,16 @@ module _ {H : Type 0} (answers : Answers H) (request : Request) (old new : H) (c
   }
 
   -- or not
-  pub next_untold : (why : Untold) → TellsSo (spelled_answer came shown) o o' (Err why)
-      → AnswersNext answers request old new o o' (Err (stop.Untold why))
-  next_untold why told = record {
+  pub next_untold : WritesFront (spelled_answer came shown) o o'
+      → AnswersNext answers request old new o o' (Err stop.Untold)
+  next_untold told = record {
     a = record { request = request; after = new; came = came; out = shown; ends = ends };
     has = record { request_is = refl; does = does; after = refl };
     told = told;
   }
 
--- an answer for whose line memory was wanting, by what it shows
-pub untold_same : (came : Outcome) (x y : List ℕ) (o o' : Stream) (why : Untold) → x ≡ y
-    → TellsSo (spelled_answer came x) o o' (Err why) → TellsSo (spelled_answer came y) o o' (Err why)
-untold_same came x y o o' why same =
-    subst (λ (shown : List ℕ). TellsSo (spelled_answer came shown) o o' (Err why)) same
+-- a front of an answer, by what it shows
+pub front_same : (came : Outcome) (x y : List ℕ) (o o' : Stream) → x ≡ y
+    → WritesFront (spelled_answer came x) o o' → WritesFront (spelled_answer came y) o o'
+front_same came x y o o' same =
+    subst (λ (shown : List ℕ). WritesFront (spelled_answer came shown) o o') same

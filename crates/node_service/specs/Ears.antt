@@ -70,7 +70,6 @@ abbrev pub TurnBy : (read : List ℕ) (told : List Request) (new : Ear) → Turn
 TurnBy read told new turn.Request = TellsNext read told new
 TurnBy read told new turn.More = EarStands read told new
 TurnBy read told new turn.Fault = EndsInFault read told
-TurnBy read told new turn.Memory = HasTold read told
 
 -- what was heard of the input, of which so many bytes were read in this call
 abbrev pub CameBy : (read : List ℕ) (told : List Request) (more : ℕ) (input input' : Stream)
@@ -82,7 +81,6 @@ CameBy read told more input input' new came.Fault = EndsInFault read told
 CameBy read told more input input' new came.ReadFault =
     (requests read ≡ told) × CountRose input.faults input'.faults
 CameBy read told more input input' new came.TooMuch = HasTold read told × (2 ^ 64 - 1 ≤ more)
-CameBy read told more input input' new came.Memory = HasTold read told
 
 -- an ear read these bytes more, and behind what it had heard came this
 pub record HearsOn (input input' : Stream) (old new : Ear) (c : Came) : Type 0 where

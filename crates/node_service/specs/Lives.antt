@@ -3,7 +3,7 @@ use Rattle.std.specs.Prelude.{◌≡◌, ◌⊎◌, ℕ, ◌+◌, ◌-◌, ◌^�
 use Rattle.std.specs.Prelude.{◌++◌, length, map, codes, flat_map}
 use Rattle.std.specs.Io.KnownBytes.{Appends, Consumes, IsAtEnd}
 use Rattle.outside.specs.Faults.{CountRose}
-use Rattle.outside.specs.Streams.{GetsFront, Stream}
+use Rattle.outside.specs.Streams.{GetsFront, IsIdle, Stream}
 use Rattle.request_frames.specs.Laws.{Answer, answer_text}
 use Rattle.request_frames.specs.Requests.{Request, ending, requests}
 use Rattle.request_frames.specs.declared.reader.Ending.TheVariants as ends
@@ -107,9 +107,17 @@ pub record EndsUntold {H : Type 0} (read : List ℕ) (answered : List (Answered 
   pub more_is : (more ≡ []) ⊎ ((more ≡ fault_answer) × (ending read ≡ ends.Fault))
   pub told : GetsFront out out' (life_text answered ++ more)
 
+-- no memory was found to begin with: nothing was read, answered or written
+pub record NeverServed {H : Type 0} (read : List ℕ) (answered : List (Answered H))
+    (input input' out out' : Stream) : Type 0 where
+  pub none_read : read ≡ []
+  pub none_answered : answered ≡ []
+  pub unread : IsIdle input input'
+  pub quiet : IsIdle out out'
+
 -- by the outcome: the input ended, in or behind a request; what follows is no request; a read of the
 -- input failed; a write of the output failed; the input or the requests are more than can be counted;
--- or no memory was found
+-- or no memory was found to begin with
 abbrev pub EndsByInput : {H : Type 0} (read : List ℕ) (answered : List (Answered H))
     (input input' out out' : Stream) → Outcome → Type 0
 EndsByInput read answered input input' out out' outcome.Done =
@@ -124,7 +132,7 @@ EndsByInput read answered input input' out out' outcome.TooMuch =
     GoOn answered × (2 ^ 64 - 1 ≤ length read + length answered)
     × Appends out.bytes out'.bytes (life_text answered)
 EndsByInput read answered input input' out out' outcome.Memory =
-    GetsFront out out' (life_text answered)
+    NeverServed read answered input input' out out'
 EndsByInput read answered input input' out out' _ = ⊥
 
 -- A life: these bytes of the input were read, and of their requests the first were answered, in

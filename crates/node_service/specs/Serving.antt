@@ -1,8 +1,8 @@
 -- The steps of a node that serves.
-use Rattle.std.specs.Prelude.{◌≡◌, ℕ, ◌≤◌, Bool, true, false, List, Result, Ok, Err}
+use Rattle.std.specs.Prelude.{◌≡◌, ℕ, Bool, true, false, List, Result, Ok, Err}
 use Rattle.std.specs.Io.KnownBytes.{Appends}
 use Rattle.outside.specs.Faults.{CountRose}
-use Rattle.outside.specs.Streams.{GetsFront, IsIdle, Stream}
+use Rattle.outside.specs.Streams.{GetsFront, Stream}
 use Rattle.outside.specs.declared.failed.Failed.{Failed}
 use Rattle.request_frames.specs.Requests.{Request}
 use Rattle.sync_words.specs.declared.outcome.Outcome.{Outcome}
@@ -10,25 +10,15 @@ use Rattle.sync_words.specs.declared.outcome.Outcome.TheVariants as outcome
 use Rattle.node_service.specs.Lives.{Answered, Answers, fault_answer, spelled_answer}
 use Rattle.node_service.specs.declared.life.Stop.{Stop}
 use Rattle.node_service.specs.declared.life.Stop.TheVariants as stop
-use Rattle.node_service.specs.declared.life.Untold.{Untold}
-use Rattle.node_service.specs.declared.life.Untold.TheVariants as untold
 
--- a sink got a text, or a front of it and a call of it failed
+-- a sink got a front of a text, and a call of it failed
+abbrev pub WritesFront : List ℕ → (out out' : Stream) → Type 0
+WritesFront text out out' = CountRose out.faults out'.faults × GetsFront out out' text
+
+-- a sink got a text, or a front of it
 abbrev pub WritesText : List ℕ → (out out' : Stream) → Result (Unit {0}) Failed → Type 0
 WritesText text out out' (Ok u) = Appends out.bytes out'.bytes text
-WritesText text out out' (Err e) = CountRose out.faults out'.faults × GetsFront out out' text
-
--- the same of an answer, for whose line memory may be wanting
-abbrev pub TellsSo : List ℕ → (out out' : Stream) → Result (Unit {0}) Untold → Type 0
-TellsSo text out out' (Ok u) = Appends out.bytes out'.bytes text
-TellsSo text out out' (Err untold.Failed) =
-    CountRose out.faults out'.faults × GetsFront out out' text
-TellsSo text out out' (Err untold.Memory) = IsIdle out out'
-
-pub record TellsAnswer (text : List ℕ) (out out' : Stream) (result : Result (Unit {0}) Untold)
-    : Type 0 where
-  pub so : TellsSo text out out' result
-  pub later : out.faults ≤ out'.faults
+WritesText text out out' (Err e) = WritesFront text out out'
 
 -- a request was answered so, and the host is that behind it
 pub record HasAnswered {H : Type 0} (answers : Answers H) (request : Request) (old new : H)
@@ -44,7 +34,7 @@ ToldNext a out out' (Ok u) =
     (a.ends ≡ false) × Appends out.bytes out'.bytes (spelled_answer a.came a.out)
 ToldNext a out out' (Err (stop.With came)) =
     (a.ends ≡ true) × (came ≡ a.came) × Appends out.bytes out'.bytes (spelled_answer a.came a.out)
-ToldNext a out out' (Err (stop.Untold why)) = TellsSo (spelled_answer a.came a.out) out out' (Err why)
+ToldNext a out out' (Err stop.Untold) = WritesFront (spelled_answer a.came a.out) out out'
 
 pub record AnswersNext {H : Type 0} (answers : Answers H) (request : Request) (old new : H)
     (out out' : Stream) (result : Result (Unit {0}) Stop) : Type 0 where
@@ -62,18 +52,15 @@ AnswersAlike {H} now first =
 abbrev pub EndsAs : (ends : Bool) → Outcome → Result (Unit {0}) Stop → Type 0
 EndsAs ends came (Ok u) = ends ≡ false
 EndsAs ends came (Err (stop.With with)) = (ends ≡ true) × (with ≡ came)
-EndsAs ends came (Err (stop.Untold why)) = ⊥
+EndsAs ends came (Err stop.Untold) = ⊥
 
 -- what the node ends with
 abbrev pub stopped_as : Stop → Outcome
 stopped_as (stop.With came) = came
-stopped_as (stop.Untold untold.Failed) = outcome.WriteFault
-stopped_as (stop.Untold untold.Memory) = outcome.Memory
+stopped_as stop.Untold = outcome.WriteFault
 
 -- what follows is no request: that was told, or not
 abbrev pub TellsFault : (out out' : Stream) → Outcome → Type 0
 TellsFault out out' outcome.NoRequest = Appends out.bytes out'.bytes fault_answer
-TellsFault out out' outcome.WriteFault =
-    CountRose out.faults out'.faults × GetsFront out out' fault_answer
-TellsFault out out' outcome.Memory = IsIdle out out'
+TellsFault out out' outcome.WriteFault = WritesFront fault_answer out out'
 TellsFault out out' _ = ⊥

@@ -1,5 +1,5 @@
 // The requests of an input, one by one.
-ghost use Rattle.std.specs.Prelude.{◌≡◌, [], ℕ, List, IfOk, OnErr, OnOk};
+ghost use Rattle.std.specs.Prelude.{[], ℕ, List, IfOk};
 ghost use Rattle.outside.specs.Faults.{HasCause};
 ghost use Rattle.request_frames.specs.Reading.{IsAsked};
 ghost use Rattle.request_frames.specs.Requests.{Request};
@@ -29,8 +29,6 @@ pub(crate) enum Came {
     ReadFault,
     /// More pieces than can be counted.
     TooMuch,
-    /// Nothing: no memory was found.
-    Memory,
 }
 
 /// What was heard of the rest of a piece.
@@ -42,8 +40,6 @@ pub(crate) enum Turn {
     More,
     /// Something that is no request.
     Fault,
-    /// No memory was found.
-    Memory,
 }
 
 /// Hears requests in an input: a reader, and a piece, of which the part from one place up to
@@ -82,7 +78,6 @@ impl Ear {
             match self.hear(alloc) {
                 Turn::Request => return Came::Request,
                 Turn::Fault => return Came::Fault,
-                Turn::Memory => return Came::Memory,
                 Turn::More => {}
             }
             match self.read(input) {
@@ -136,10 +131,8 @@ impl Ear {
         ensures sound { IsEar self.new }
     {
         keeping_goes_on();
-        match self.ask(alloc) {
-            Ok(()) => self.hear_asked(),
-            Err(_) => Turn::Memory,
-        }
+        self.ask(alloc);
+        self.hear_asked()
     }
 
     // Hears the input of a request of which it was said how much is kept.
@@ -163,11 +156,10 @@ impl Ear {
 
     // Asks for as much of the input as the command of the words reads; where there is no memory for
     // that, for none of it.
-    fn ask(&mut self, alloc: Global) -> Result<(), AllocError>
+    fn ask(&mut self, alloc: Global)
         requires asked { IsAsked self.old.reader.at }
         requires sound { IsEar self.old }
-        ensures ok { OnOk result (AsksOn self.old self.new) }
-        ensures err { OnErr result (self.new ≡ self.old) }
+        ensures asks { AsksOn self.old self.new }
         ensures sound { IsEar self.new }
     {
         let most = match command_of(alloc, self.reader.words()) {
@@ -175,9 +167,11 @@ impl Ear {
             Err(_) => 0,
         };
         if self.reader.keep(most).is_ok() {
-            return Ok(());
+            return;
         }
-        self.reader.keep(0)
+        if self.reader.keep(0).is_err() {
+            unreachable!()
+        }
     }
 
     // Hears the rest of the piece, up to what there is to tell.

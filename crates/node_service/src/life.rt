@@ -6,36 +6,27 @@ ghost use Rattle.request_frames.specs.Laws.{KeepsOf};
 ghost use Rattle.request_frames.specs.Reading.{IsWhole};
 ghost use Rattle.request_frames.specs.Requests.{Request};
 ghost use Rattle.node_service.specs.Lives.{HasLived, shown_bytes, spelled_answer};
-ghost use Rattle.node_service.specs.Serving.{AnswersAlike, AnswersNext, EndsAs, TellsAnswer};
-ghost use Rattle.node_service.specs.Serving.{TellsFault, WritesText, stopped_as};
+ghost use Rattle.node_service.specs.Serving.{AnswersAlike, AnswersNext, EndsAs, TellsFault};
+ghost use Rattle.node_service.specs.Serving.{WritesText, stopped_as};
 ghost use Rattle.sync_words.specs.declared.outcome.Outcome.{Outcome};
 
 use crate::ear::{Came, Ear};
 use crate::node::{Node, Reply};
 use outside::{Failed, Host, MemSink, Sink, Source, write_all, write_text};
-use request_frames::{Ending, append_answer_line};
+use request_frames::{Ending, answer_line};
 use std::alloc::Global;
 use sync_words::Outcome;
 
 // What a node says first: that it is ready, and which framing it speaks.
 const GREETING: &str = "node 1\n";
 
-/// Why an answer was not told.
-#[derive(Clone, Copy, Debug, PartialEq, Eq)]
-pub(crate) enum Untold {
-    /// A write failed.
-    Failed,
-    /// No memory was found for its line; nothing was written.
-    Memory,
-}
-
 /// Why a node ends behind a request.
 #[derive(Debug, Drop)]
 pub(crate) enum Stop {
     /// It ends with what the request came to.
     With(Outcome),
-    /// Its answer was not told.
-    Untold(Untold),
+    /// Its answer was not told: a write failed.
+    Untold,
 }
 
 // Writes three parts of a text.
@@ -55,22 +46,17 @@ fn write_parts<W: Sink>(line: &[u8], shown: &[u8], error: &[u8], out: &mut W) ->
     write_all(out, error)
 }
 
-// Tells an answer: its line, what the output gets, and its line on the error output.
-fn tell<W: Sink>(alloc: Global, came: &Outcome, shown: &[u8], out: &mut W) -> Result<(), Untold>
-    ensures told { TellsAnswer (spelled_answer came.now shown.now) (W.tells out.old)
+// Tells an answer: its line, what the output gets, and its line on the error output. It takes no
+// memory.
+fn tell<W: Sink>(came: &Outcome, shown: &[u8], out: &mut W) -> Result<(), Failed>
+    ensures told { WritesText (spelled_answer came.now shown.now) (W.tells out.old)
         (W.tells out.new) result }
+    ensures cause { HasCause (W.tells out.old).faults (W.tells out.new).faults result }
 {
     let error = came.text();
     let error = error.as_bytes();
-    let mut line = Vec::new(alloc);
-    let status = came.status().number();
-    if append_answer_line(status, shown.len(), error.len(), &mut line).is_err() {
-        return Err(Untold::Memory);
-    }
-    match write_parts(line.as_slice(), shown, error, out) {
-        Ok(()) => Ok(()),
-        Err(_) => Err(Untold::Failed),
-    }
+    let line = answer_line(came.status().number(), shown.len(), error.len());
+    write_parts(line.as_bytes(), shown, error, out)
 }
 
 // Answers the request that was heard, and tells the answer.
@@ -98,9 +84,9 @@ fn answer_next<N: Node<H>, H: Host, W: Sink>(
     let kept = ear.reader.kept();
     let mut sink = MemSink::new(alloc, Vec::new(alloc));
     let reply = node.answer(words, size, most, kept, host, &mut sink);
-    match tell(alloc, &reply.came, shown_of(reply.shown, &sink), out) {
+    match tell(&reply.came, shown_of(reply.shown, &sink), out) {
         Ok(()) => ended(reply),
-        Err(untold) => Err(Stop::Untold(untold)),
+        Err(_) => Err(Stop::Untold),
     }
 }
 
@@ -128,19 +114,17 @@ fn stopped(stop: Stop) -> Outcome
 {
     match stop {
         Stop::With(came) => came,
-        Stop::Untold(Untold::Failed) => Outcome::WriteFault,
-        Stop::Untold(Untold::Memory) => Outcome::Memory,
+        Stop::Untold => Outcome::WriteFault,
     }
 }
 
 // Tells that what follows is no request.
-fn tell_fault<W: Sink>(alloc: Global, out: &mut W) -> Outcome
+fn tell_fault<W: Sink>(out: &mut W) -> Outcome
     ensures { TellsFault (W.tells out.old) (W.tells out.new) result }
 {
-    match tell(alloc, &Outcome::NoRequest, &[], out) {
+    match tell(&Outcome::NoRequest, &[], out) {
         Ok(()) => Outcome::NoRequest,
-        Err(Untold::Failed) => Outcome::WriteFault,
-        Err(Untold::Memory) => Outcome::Memory,
+        Err(_) => Outcome::WriteFault,
     }
 }
 
@@ -171,13 +155,12 @@ pub fn serve<N: Node<H>, H: Host, S: Source, W: Sink>(
                 Ok(()) => {}
                 Err(stop) => return stopped(stop),
             },
-            Came::End(Ending::Fault) => return tell_fault(alloc, out),
-            Came::Fault => return tell_fault(alloc, out),
+            Came::End(Ending::Fault) => return tell_fault(out),
+            Came::Fault => return tell_fault(out),
             Came::End(Ending::Clean) => return Outcome::Done,
             Came::End(Ending::Inside) => return Outcome::Done,
             Came::ReadFault => return Outcome::ReadFault,
             Came::TooMuch => return Outcome::TooMuch,
-            Came::Memory => return Outcome::Memory,
         }
     }
     Outcome::TooMuch

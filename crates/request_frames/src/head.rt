@@ -1,9 +1,12 @@
 //! The line before a request, and the line before an answer.
-ghost use Rattle.std.specs.Prelude.{◌≡◌, ◌==◌, ◌<◌, ◌++◌, ◌∷◌, [], length, decimal, IfSome, OnOk};
+ghost use Rattle.std.specs.Prelude.{◌≡◌, ◌==◌, ◌+◌, ◌<◌, ◌≤◌, ◌++◌, ◌∷◌, [], length, decimal};
+ghost use Rattle.std.specs.Prelude.{IfSome, OnOk};
 ghost use Rattle.std.specs.List.{position};
+ghost use Rattle.arrayvec.specs.ArrayString.{array_string_len};
 ghost use Rattle.request_frames.specs.Heads.{answer_line, both, head_in, head_on, head_text};
 ghost use Rattle.request_frames.specs.Heads.{number_in, size_in, size_text};
 
+use arrayvec::ArrayString;
 use itoa::Buffer;
 use std::alloc::{AllocError, Global};
 
@@ -15,6 +18,13 @@ pub const MAX_WORDS: usize = 32_768;
 
 /// How many bytes the input of a request has at most.
 pub const MAX_INPUT: usize = 268_435_456;
+
+/// How many bytes the line before an answer has at most: three numbers, of 20 digits at most, with a
+/// byte behind each.
+pub const MAX_ANSWER_LINE: usize = 63;
+
+/// The line before an answer. It lies in the value itself.
+pub type AnswerLine = ArrayString<MAX_ANSWER_LINE>;
 
 /// What a head says of the input.
 #[derive(Clone, Copy, Debug, PartialEq, Eq)]
@@ -177,20 +187,26 @@ fn append_number(number: usize, to: &mut Vec<u8>) -> Result<(), AllocError>
     to.extend_from_slice(buffer.format(number).as_bytes())
 }
 
-/// Appends the line before an answer: its status, and how many bytes its output and its error
-/// output get, which follow in this order. It fails only for want of memory.
-pub fn append_answer_line(
-    status: u8,
-    out: usize,
-    error: usize,
-    to: &mut Vec<u8>,
-) -> Result<(), AllocError>
-    ensures { OnOk result (to.new.items ≡ to.old.items ++ answer_line status out error) }
+// Adds a number in digits, and a byte behind it.
+fn add_number(number: usize, behind: &'static str, to: &mut AnswerLine)
+    requires one { length behind.now ≡ 1 }
+    requires room { array_string_len to.old + 21 ≤ MAX_ANSWER_LINE }
+    ensures bytes { to.new.bytes ≡ to.old.bytes ++ (decimal number ++ behind.now) }
+    ensures short { array_string_len to.new ≤ array_string_len to.old + 21 }
 {
-    append_number(status as usize, to)?;
-    to.extend_from_slice(b" ")?;
-    append_number(out, to)?;
-    to.extend_from_slice(b" ")?;
-    append_number(error, to)?;
-    to.extend_from_slice(b"\n")
+    let mut digits = Buffer::new();
+    to.push_str(digits.format(number));
+    to.push_str(behind);
+}
+
+/// The line before an answer: its status, and how many bytes its output and its error output get,
+/// which follow in this order. It takes no memory.
+pub fn answer_line(status: u8, out: usize, error: usize) -> AnswerLine
+    ensures { result.bytes ≡ answer_line status out error }
+{
+    let mut line = AnswerLine::new();
+    add_number(status as usize, " ", &mut line);
+    add_number(out, " ", &mut line);
+    add_number(error, "\n", &mut line);
+    line
 }

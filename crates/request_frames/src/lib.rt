@@ -11,8 +11,8 @@ mod laws;
 mod reader;
 
 pub use head::{
-    FoundHead, HEAD_LEN, Head, InputSize, MAX_INPUT, MAX_WORDS, append_answer_line, append_head,
-    head_of,
+    AnswerLine, FoundHead, HEAD_LEN, Head, InputSize, MAX_ANSWER_LINE, MAX_INPUT, MAX_WORDS,
+    answer_line, append_head, head_of,
 };
 pub use laws::{
     answers_read_back, heads_read_back, keeping_goes_on, readings_are_whole, readings_begin,

@@ -2,7 +2,7 @@
 ghost use Rattle.std.specs.Prelude.{◌≡◌, ◌≤◌, ◌<◌, ◌-◌, ℕ, List, [], length, take, IfOk, OnOk};
 ghost use Rattle.request_frames.specs.declared.reader.Stage.TheVariants as stage;
 ghost use Rattle.request_frames.specs.Requests.{are_words, ending, requests};
-ghost use Rattle.std.specs.Prelude.{OnErr, ◌+◌, ◌++◌};
+ghost use Rattle.std.specs.Prelude.{IsOk, OnErr, ◌+◌, ◌++◌};
 ghost use Rattle.std.specs.Vec.{vec_capacity, vec_len};
 ghost use Rattle.request_frames.specs.Reading.{Awaits, IsAsked, KeepsMost, LeavesAt, ReadsOn};
 ghost use Rattle.request_frames.specs.Reading.{StandsFor, asked_at, asked_from, end_at};
@@ -220,10 +220,12 @@ impl Reader {
     }
 
     /// Says how many bytes of the input that comes are kept at most. It fails only for want of
-    /// memory, and then the reader is as before: less may be asked for.
+    /// memory, and then the reader is as before: less may be asked for, and to keep none of it never
+    /// fails.
     pub fn keep(&mut self, most: usize) -> Result<(), AllocError>
         requires { IsAsked self.old.at }
         ensures kept { OnOk result (KeepsMost most self.old self.new) }
+        ensures none { most ≡ 0 → IsOk result }
         ensures err { OnErr result (self.new ≡ self.old) }
     {
         let Stage::Asked(size) = self.at else {

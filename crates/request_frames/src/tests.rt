@@ -2,8 +2,7 @@
 ghost use Rattle.std.specs.Prelude.{◌≡◌, ◌≤◌, Ok, length};
 
 use crate::{
-    Ending, FoundHead, HEAD_LEN, Head, InputSize, Next, Reader, append_answer_line, append_head,
-    head_of,
+    Ending, FoundHead, HEAD_LEN, Head, InputSize, Next, Reader, answer_line, append_head, head_of,
 };
 use std::alloc::Global;
 use std::fmt::Debug;
@@ -66,10 +65,21 @@ fn spellings(rt: HostRuntime) {
         };
         made(&rt, append_head(&head, &mut text));
     }
-    made(&rt, append_answer_line(0, 72, 0, &mut text));
-    made(&rt, append_answer_line(4, 0, 23, &mut text));
-    let want = b"5 0\n72 5\n0 failed\n0 long\n0 72 0\n4 0 23\n".as_slice();
+    let want = b"5 0\n72 5\n0 failed\n0 long\n".as_slice();
     same(&rt, &text.as_slice(), &want);
+}
+
+#[test]
+fn answer_lines(rt: HostRuntime) {
+    for (status, out, error, want) in &[
+        (0, 72, 0, "0 72 0\n"),
+        (4, 0, 23, "4 0 23\n"),
+        (1, 0, 18, "1 0 18\n"),
+        (12, 0, 14, "12 0 14\n"),
+        (255, usize::MAX, usize::MAX, "255 18446744073709551615 18446744073709551615\n"),
+    ] {
+        same(&rt, &answer_line(*status, *out, *error).as_str(), want);
+    }
 }
 
 // Two requests, the second with an input of five bytes.

@@ -1,6 +1,6 @@
 use Rattle.std.proofs.Common.{sym, ◌∙◌}
 use Rattle.node_service.specs.Lives.{shown_bytes}
-use Rattle.node_service.proofs.TellLemmas.{keeps_so, next_told, next_untold, untold_same}
+use Rattle.node_service.proofs.TellLemmas.{front_same, keeps_so, next_told, next_untold}
 use Rattle.node_service.proofs.life.answer_next.Goals as goal
 
 pub returns-in-Ok-clause-answers : goal.returns-in-Ok-clause-answers
@@ -12,7 +12,7 @@ returns-in-Ok-clause-answers g c = λ request words keeps.
     let does = c.answer-reply.ensures.answered request (words ∙ sym c.words-words.ensures) keeps' in
     next_told (g.N.Node.answers c.args.node.now) request c.args.host.now c.answer-reply.new.host
     c.answer-reply.result.came _ c.answer-reply.result.ends _ _ does c.ended.result c.ended.ensures
-    (rw c.shown_of.ensures at c.in-Ok.ensures.told.so)
+    (rw c.shown_of.ensures at c.in-Ok.ensures.told)
 
 pub returns-clause-answers : goal.returns-clause-answers
 returns-clause-answers g c = λ request words keeps.
@@ -25,8 +25,7 @@ returns-clause-answers g c = λ request words keeps.
     c.answer-reply.result.came
     (shown_bytes c.answer-reply.result.shown c.answer-reply.new.out.bytes)
     c.answer-reply.result.ends (g.W.Sink.tells c.args.out.now) (g.W.Sink.tells c.tell.new.out) does
-    c.in-Err.untold
-    (untold_same c.answer-reply.result.came c.shown_of.result.now
+    (front_same c.answer-reply.result.came c.shown_of.result.now
     (shown_bytes c.answer-reply.result.shown c.answer-reply.new.out.bytes)
-    (g.W.Sink.tells c.args.out.now) (g.W.Sink.tells c.tell.new.out) c.in-Err.untold
-    c.shown_of.ensures c.in-Err.ensures.told.so)
+    (g.W.Sink.tells c.args.out.now) (g.W.Sink.tells c.tell.new.out) c.shown_of.ensures
+    c.in-Err.ensures.told)

@@ -1,7 +1,7 @@
 use Rattle.std.proofs.Common.{ap, refl, Ok, Err}
 use Rattle.request_frames.specs.declared.reader.Ending.TheVariants as ends
 use Rattle.node_service.specs.declared.ear.Came.TheVariants as came
-use Rattle.node_service.proofs.LifeLemmas.{ends_at_fault, ends_done, ends_in_fault, ends_memory}
+use Rattle.node_service.proofs.LifeLemmas.{ends_at_fault, ends_done, ends_in_fault}
 use Rattle.node_service.proofs.LifeLemmas.{ends_read_fault, ends_too_much, goes_on, lived_first}
 use Rattle.node_service.proofs.LifeLemmas.{lived_counted, lived_none, lived_untold, next_whole}
 use Rattle.node_service.proofs.LifeLemmas.{stops}
@@ -72,11 +72,6 @@ pub returns-in-TooMuch : goal.returns-in-TooMuch
 returns-in-TooMuch g c =
     ends_too_much _ _ _ _ _ _ _ _ _ _ _ _ c.requests.invariant.0 came.TooMuch
     c.in-TooMuch.ensures.hears refl
-
-pub returns-in-Memory : goal.returns-in-Memory
-returns-in-Memory g c =
-    ends_memory _ _ _ _ _ _ _ _ _ _ _ _ c.requests.invariant.0 came.Memory
-    c.in-Memory.ensures.hears refl
 
 pub requests-preserved : goal.requests-preserved
 requests-preserved g c = (
