@@ -76,7 +76,12 @@ fn answer_lines(rt: HostRuntime) {
         (4, 0, 23, "4 0 23\n"),
         (1, 0, 18, "1 0 18\n"),
         (12, 0, 14, "12 0 14\n"),
-        (255, usize::MAX, usize::MAX, "255 18446744073709551615 18446744073709551615\n"),
+        (
+            255,
+            usize::MAX,
+            usize::MAX,
+            "255 18446744073709551615 18446744073709551615\n",
+        ),
     ] {
         same(&rt, &answer_line(*status, *out, *error).as_str(), want);
     }
