@@ -2,7 +2,7 @@
 # Measures all that the table of docs/SPEED.md says, each script of this folder after the other, each with its peers beside it, and
 # prints the table.
 #
-#     bench/speed.sh                    all of it, in one run: half an hour and more
+#     bench/speed.sh                    all of it, in one run: seven minutes, on a machine that does nothing else
 #     bench/speed.sh try store          these rows alone
 #     bench/speed.sh --write ..         the same, and the rows are written into docs/SPEED.md, with their run's date and machine
 #     bench/speed.sh --list             the words of the rows
