@@ -169,7 +169,7 @@ fn a_peer_that_goes_in_the_middle(rt: HostRuntime) {
 #[test]
 fn a_peer_that_does_not_read(rt: HostRuntime) {
     let listener = kept(&rt, UnixListener::bind(&rt, "full_socket"));
-    let bytes = kept(&rt, vec![in rt.alloc(); 7; 4_000_000]);
+    let bytes = kept(&rt, vec![in rt.alloc(); 7; 1_000_000]);
     let mut host = kept(&rt, real_host(rt, "no_folder"));
     dial(&rt, &mut host.host, "unix:full_socket");
     let (peer, _) = kept(&rt, listener.accept());
