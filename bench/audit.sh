@@ -1,6 +1,7 @@
 #!/bin/sh
 # An audit of journals that bench/journal_files.py makes, beside a load of the same file. Each time is the least processor time of
-# RUNS (3) runs, which the program takes of that step alone; memory is what the step takes beside a program that only reads the file.
+# RUNS (3) runs, which the program takes of that step alone; memory is what the step takes beside a program that only reads the file,
+# each the median of PEAKS (5) runs, since the system counts pages in batches: single runs differ by 0.05 of the file.
 # - FEW (5,000) and MANY (20,000) notes of 200 bytes, which contact 0 sent in 100 sessions and which were sent on to contact 1 in
 #   100 more: how much faster than n log n the time grows, and at MANY the time and the memory beside those of a load and the file.
 # - WORST (5,000) messages that wait for the last: a chain in which each waits for the next, and a star in which all wait for one.
@@ -8,8 +9,8 @@
 set -eu
 cd "$(dirname "$0")/.."
 .ci/built bench || exit 1
-exec env PYTHONPATH=bench:oracle PYTHONDONTWRITEBYTECODE=1 python3 - "${RUNS:-3}" "${FEW:-5000}" "${MANY:-20000}" "${WORST:-5000}" <<'PY'
-import math, os, subprocess, sys, tempfile
+exec env PYTHONPATH=bench:oracle PYTHONDONTWRITEBYTECODE=1 python3 - "${RUNS:-3}" "${FEW:-5000}" "${MANY:-20000}" "${WORST:-5000}" "${PEAKS:-5}" <<'PY'
+import math, os, statistics, subprocess, sys, tempfile
 
 from journal import SHORT, entries, frames
 from journal_files import chain, heard, star
@@ -24,7 +25,7 @@ import os, subprocess, sys
 child = subprocess.Popen(sys.argv[2:], cwd=sys.argv[1], stdout=subprocess.DEVNULL, stderr=subprocess.DEVNULL)
 print(os.wait4(child.pid, 0)[2].ru_maxrss * 1024)
 """
-runs, few, many, worst = map(int, sys.argv[1:])
+runs, few, many, worst, peaks = map(int, sys.argv[1:])
 
 
 def step(folder, want, *words):
@@ -35,7 +36,7 @@ def step(folder, want, *words):
 
 def peak(folder, *words):
     words = (sys.executable, "-c", PEAK, folder, PROGRAM, "store", *words)
-    return int(subprocess.run(words, capture_output=True, check=True).stdout)
+    return statistics.median(int(subprocess.run(words, capture_output=True, check=True).stdout) for _ in range(peaks))
 
 
 def measure(payloads, messages):

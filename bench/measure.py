@@ -8,14 +8,14 @@ from collections import namedtuple
 Run = namedtuple('Run', 'seconds memory out err')
 
 
-def run(*words, source=subprocess.DEVNULL, sink=subprocess.PIPE, folder=None, want=None):
-    """One run, in a folder if one is given, which must end with status 0 and, where a text is wanted, write that."""
+def run(*words, source=subprocess.DEVNULL, sink=subprocess.PIPE, folder=None, want=None, status=0):
+    """One run, in a folder if one is given, which must end with this status and, where a text is wanted, write that."""
     child = subprocess.Popen(words, stdin=source, stdout=sink, stderr=subprocess.PIPE, cwd=folder)
     out = child.stdout.read().decode() if child.stdout else ''
     err = child.stderr.read().decode()
-    _, status, usage = os.wait4(child.pid, 0)
-    child.returncode = os.waitstatus_to_exitcode(status)
-    if child.returncode != 0 or want is not None and out != want:
+    _, ended, usage = os.wait4(child.pid, 0)
+    child.returncode = os.waitstatus_to_exitcode(ended)
+    if child.returncode != status or want is not None and out != want:
         sys.exit(f'{words}: {out[:200]!r}, {err[:200]!r}, status {child.returncode}')
     return Run(usage.ru_utime + usage.ru_stime, usage.ru_maxrss * 1024, out, err)
 

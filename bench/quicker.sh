@@ -1,8 +1,8 @@
 #!/usr/bin/env bash
 # What goes again over a quicker way, of processor time in files in memory, the least of RUNS (3) runs:
 # - `sync` on its standard output, in batch mode and in interactive, of COUNT (20,000) notes of 200 bytes that `mailbox out` wrote
-#   into a letter of two days, beside the same of a store in which nothing was tried, each less a load of its store. What it sends and
-#   leaves is compared with what the rules say (oracle/store_file.py).
+#   into a letter of two days, beside the same of a store in which nothing was tried, each less a load of its store by the same command,
+#   which is refused there for want of its contact. What it sends and leaves is compared with what the rules say (oracle/store_file.py).
 # - TURNS (20,000) turns of `sync` with nothing due over WAITING (100,000) notes that were tried once to six times and wait, a byte
 #   of a record being heard in each, less a run in which the record comes at once; beside as many over 100 such notes.
 # - `audit` of journals that bench/journal_files.py makes, each against half as many tries, and over a load of the same store: COUNT
@@ -53,20 +53,20 @@ def notes_of(number):
     return [Note(place, SIZE) for place in range(number)]
 
 
-def sync(before, mode, latency=QUICK):
+def sync(before, mode, contact=0, status=0):
     """A run of `sync` whose input ends behind its greeting."""
     put(STORE, before)
     put(SENT + '.in', GREETING)
     with open(SENT + '.in', 'rb') as source, open(SENT, 'wb') as sink:
-        return run(bsp, 'sync', '1000000', '1', '0', mode, str(latency), 'std', source=source, sink=sink, folder=folder)
+        words = bsp, 'sync', '1000000', '1', str(contact), mode, str(QUICK), 'std'
+        return run(*words, source=source, sink=sink, folder=folder, status=status)
 
 
 # ---- a letter that was lost
 
-def load(before, _):
-    """A load and nothing else: there is no such message."""
-    put(STORE, before)
-    return run(*LOAD, folder=folder)
+def load(before, mode):
+    """A load and nothing else: there is no such contact."""
+    return sync(before, mode, contact=1, status=4)
 
 
 def letter():
@@ -79,7 +79,8 @@ def letter():
 
 
 def check(before, mode):
-    """What a run of `sync` sends and leaves: each note, or offers of all of them."""
+    """What a run of `sync` sends and leaves: each note, or offers of all of them; and that the other one leaves all as it is."""
+    expect(load(before, mode).err == 'refused: unknown contact\n' and content_of(STORE) == before, 'a load')
     sync(before, mode)
     payloads = [payload for at, payload in frames(content_of(STORE)) if at >= len(before) - 1]
     outs = [payload for payload in payloads if payload[0] == 15]

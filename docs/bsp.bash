@@ -1,7 +1,7 @@
 # Completion for bash: `source docs/bsp.bash`, or a copy in /etc/bash_completion.d.
 _bsp() {
     local word=${COMP_WORDS[COMP_CWORD]} place=$COMP_CWORD
-    local commands='init contact group share post show inbox body tree audit status say agree compact mailbox sync serve quit records try help'
+    local commands='init contact group share post show inbox body tree audit status say agree compact mailbox sync serve watch quit records try help'
     COMPREPLY=()
     if [ "$place" -eq 1 ]; then
         COMPREPLY=($(compgen -W "$commands" -- "$word"))
@@ -17,7 +17,7 @@ _bsp() {
         help:2) COMPREPLY=($(compgen -W "${commands% help}" -- "$word")) ;;
         help:3) [ "${COMP_WORDS[2]}" = mailbox ] && COMPREPLY=($(compgen -W 'in out' -- "$word")) ;;
         mailbox:2) COMPREPLY=($(compgen -W 'in out' -- "$word")) ;;
-        serve:2) COMPREPLY=($(compgen -W 'std' -- "$word")) ;;
+        serve:2) COMPREPLY=($(compgen -W 'std socket' -- "$word")) ;;
         sync:*)
             [ "$place" -lt 4 ] && return
             case $(((place - 4) % 4)) in

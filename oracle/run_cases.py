@@ -1039,6 +1039,17 @@ def quicker_letters():
         say('idle 0 2', 'idle 1 2', 'clock 0', 'sync 2 1 0 batch %d listen:x 0 batch %d listen:y' % latencies)
 
     for mode in ('interactive', 'batch'):
+        # behind a first try at 5,000 by a way of a second 7,000 stands, and a second try sets 4,000 more than the clock
+        for before, behind in ((5000, 3000), (5000, 2999), (YEAR, 1000)):
+            case('a clock that falls from %d to %d between two links of a turn: %s' % (before, behind, mode))
+            one_contact()
+            for n in range(3):
+                post(NOTES, n, b'x')
+            say('idle 0 3', 'idle 1 3', 'clock %d' % before, 'clock %d' % behind,
+                'sync 2 2 0 %s 1000 listen:x 0 %s 1000 listen:y' % (mode, mode), 'states')
+            meet(behind, mode, 1000)
+
+    for mode in ('interactive', 'batch'):
         case('eight links of halving latency: ' + mode)
         one_contact()
         post(NOTES, 0, b'x')

@@ -145,6 +145,10 @@ impl DueTree {
         if from >= self.len() {
             return None;
         }
+        // The root has the least number of all.
+        if !is_due(at(&self.cells, 1), bound) {
+            return None;
+        }
         let found = first_cell(
             &self.cells,
             self.leaves,

@@ -1,3 +1,4 @@
+pub mod Answered
 mod Audits
 mod Brought
 mod Calm

@@ -2,6 +2,7 @@
 ghost use Rattle.std.specs.Prelude.{◌≡◌, ◌<◌, ℕ, cond, false, true, nat_eq, ◌&&◌, IfOk, OnOk};
 ghost use Rattle.journal_audit.specs.Numbers.{has_alarm, has_time};
 
+use crate::time::Time;
 use std::alloc::{AllocError, Global};
 use std::collections::BTreeSet;
 use std::marker::Model;
@@ -9,7 +10,7 @@ use std::marker::Model;
 /// Times in milliseconds, each with the arrival number of a message. Contracts see the list of them.
 #[derive(Drop)]
 struct Times {
-    set: BTreeSet<(u64, u32)>,
+    set: BTreeSet<(Time, u32)>,
 }
 
 impl Model for Times {
@@ -31,7 +32,7 @@ impl Times {
     }
 
     // Adds a time of a message. After want of memory nothing is said of the set.
-    fn add(&mut self, time: u64, number: u32) -> Result<(), AllocError>
+    fn add(&mut self, time: Time, number: u32) -> Result<(), AllocError>
         ensures { OnOk result ((t n : ℕ) → has_time self.new t n ≡ cond (nat_eq t time && nat_eq n
             number) true (has_time self.old t n)) }
     {
@@ -40,7 +41,7 @@ impl Times {
     }
 
     // Takes a time of a message out.
-    fn remove(&mut self, time: u64, number: u32)
+    fn remove(&mut self, time: Time, number: u32)
         ensures { (t n : ℕ) → has_time self.new t n ≡ cond (nat_eq t time && nat_eq n number) false
             (has_time self.old t n) }
     {
@@ -52,16 +53,16 @@ impl Times {
         ensures { result ≡ true → (t n : ℕ) → has_time self.now t n ≡ true → now < t }
     {
         match self.set.first() {
-            Some((time, _)) => now < *time,
+            Some((time, _)) => now < time.milliseconds(),
             None => true,
         }
     }
 
     // Those that have come.
-    fn up_to(&self, alloc: Global, now: u64) -> Result<Vec<(u64, u32)>, AllocError> {
+    fn up_to(&self, alloc: Global, now: u64) -> Result<Vec<(Time, u32)>, AllocError> {
         let mut come = Vec::new(alloc);
         for (time, number) in &self.set {
-            if *time > now {
+            if time.milliseconds() > now {
                 break;
             }
             come.push((*time, *number))?;
@@ -108,7 +109,7 @@ impl Alarms {
         &mut self,
         is_wanted: bool,
         contact: u8,
-        time: u64,
+        time: Time,
         number: u32,
     ) -> Result<(), AllocError>
         ensures { OnOk result ((c t n : ℕ) → has_alarm self.new c t n ≡ cond (is_wanted && (nat_eq c
@@ -122,7 +123,7 @@ impl Alarms {
     }
 
     /// Takes an alarm out for a contact.
-    pub(crate) fn remove(&mut self, contact: u8, time: u64, number: u32)
+    pub(crate) fn remove(&mut self, contact: u8, time: Time, number: u32)
         ensures { (c t n : ℕ) → has_alarm self.new c t n ≡ cond (nat_eq c contact && (nat_eq t time
             && nat_eq n number)) false (has_alarm self.old c t n) }
     {
@@ -143,7 +144,7 @@ impl Alarms {
         alloc: Global,
         contact: u8,
         now: u64,
-    ) -> Result<Vec<(u64, u32)>, AllocError> {
+    ) -> Result<Vec<(Time, u32)>, AllocError> {
         self.sets[contact as usize].up_to(alloc, now)
     }
 }

@@ -10,6 +10,7 @@ ghost use Rattle.journal_audit.specs.declared.messages.Line.{Line};
 use crate::due::may_go;
 use crate::early::Mark;
 use crate::facts::PlainFacts;
+use crate::time::Time;
 use std::alloc::{AllocError, Global};
 use sync_ids::MessageId;
 use sync_rules::{Entry, Out};
@@ -50,7 +51,7 @@ impl PlainFacts {
     }
 
     // An alarm of the contact rings.
-    fn ring(&mut self, contact: u8, time: u64, n: u32) -> Result<(), AllocError>
+    fn ring(&mut self, contact: u8, time: Time, n: u32) -> Result<(), AllocError>
         requires { IsPlainSound self.old }
         ensures { OnOk result (BecomesFacts self.old self.new (facts_of self.old)) }
     {
@@ -144,7 +145,7 @@ impl PlainFacts {
             return;
         };
         let contact = self.contact_of(session);
-        if self.rows.row(contact, &id).expiry > now {
+        if self.rows.row(contact, &id).expiry.milliseconds() > now {
             let latency = self.latency_of(session);
             self.pass(contact, latency, now);
         }

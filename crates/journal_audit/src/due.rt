@@ -22,7 +22,7 @@ use crate::rows::ContactRow;
 use std::alloc::{AllocError, Global};
 use std::collections::BTreeSet;
 use sync_ids::{GroupId, MAX_IDS, MessageId};
-use sync_rules::{Judgement, Level, Mode, Origin};
+use sync_rules::{Level, Mode, Origin};
 
 // ---- one message
 
@@ -46,16 +46,6 @@ fn is_author(origin: Origin) -> bool
     }
 }
 
-// Whether a judgement lets its message be sent on.
-fn shares(answer: &Judgement) -> bool
-    ensures { result ≡ shares answer.now }
-{
-    match answer {
-        Judgement::Refuse => false,
-        Judgement::Accept { share, .. } => *share,
-    }
-}
-
 /// Whether a message may go to a contact for which this row is kept, once it is judged.
 pub(crate) fn may_go(levels: &Levels, contact: u8, line: &Line, row: ContactRow) -> bool
     ensures { result ≡ may_go levels.now contact line.now row }
@@ -63,7 +53,7 @@ pub(crate) fn may_go(levels: &Levels, contact: u8, line: &Line, row: ContactRow)
     line.delivered
         && is_shared(levels, contact, &line.message.group())
         && !row.seen
-        && (is_author(line.origin) || shares(&line.answer))
+        && (is_author(line.origin) || line.answer.shares())
 }
 
 // Whether a message may be sent to a contact for which this row is kept.
@@ -73,7 +63,7 @@ fn is_sendable(levels: &Levels, contact: u8, line: &Line, row: ContactRow) -> bo
     line.delivered
         && is_shared(levels, contact, &line.message.group())
         && !row.seen
-        && (is_author(line.origin) || (line.judged && shares(&line.answer)))
+        && (is_author(line.origin) || (line.judged && line.answer.shares()))
 }
 
 // Whether a message of this row is to be sent now.
@@ -82,7 +72,7 @@ fn is_ripe(mode: Mode, now: u64, row: ContactRow) -> bool
 {
     match mode {
         Mode::Interactive => row.asked,
-        Mode::Batch => row.expiry <= now,
+        Mode::Batch => row.expiry.milliseconds() <= now,
     }
 }
 
@@ -98,7 +88,7 @@ fn is_offered(levels: &Levels, contact: u8, now: u64, line: &Line, row: ContactR
     ensures { result ≡ (is_line_sendable levels.now contact line.now row && (not row.asked
         && nat_le row.expiry now)) }
 {
-    is_sendable(levels, contact, line, row) && !row.asked && row.expiry <= now
+    is_sendable(levels, contact, line, row) && !row.asked && row.expiry.milliseconds() <= now
 }
 
 // The id of the message of this number, where it waits for an acknowledgement to the contact.

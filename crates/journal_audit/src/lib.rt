@@ -2,6 +2,7 @@
 #![tactic(auto)]
 
 mod alarms;
+mod answer;
 mod auditing;
 mod bringing;
 mod clocks;
@@ -30,6 +31,7 @@ mod settling;
 mod sleepers;
 mod sleeping;
 mod taking;
+mod time;
 mod view;
 mod wants;
 

@@ -6,23 +6,25 @@ ghost use Rattle.sync_rules.specs.Views.{IsFound, place_of};
 ghost use Rattle.journal_audit.specs.Lines.{delivered_line, held_in, invalid_line, judged_line};
 ghost use Rattle.journal_audit.specs.Lines.{left_for_line, left_in, line_changed};
 
+use crate::answer::Answer;
 use std::alloc::{AllocError, Global};
 use std::collections::BTreeMap;
 use std::marker::Model;
 use sync_ids::{Message, MessageId};
-use sync_rules::{Judgement, Origin};
+use sync_rules::Origin;
 
-/// A held message, what its client says of it, and what became of it.
+/// A held message, what its client says of it, and what became of it. The small fields stand together,
+/// so that they take one word.
 #[derive(Drop)]
 pub(crate) struct Line {
     /// Its id.
     pub(crate) id: MessageId,
     /// The message.
     pub(crate) message: Message,
+    /// What its client says of it.
+    pub(crate) answer: Answer,
     /// Where it came from.
     pub(crate) origin: Origin,
-    /// What its client says of it.
-    pub(crate) answer: Judgement,
     /// It has a Judged entry.
     pub(crate) judged: bool,
     /// It has an Invalid entry.

@@ -8,6 +8,7 @@ use crate::clocks::Clocks;
 use crate::cursors::Cursors;
 use crate::numbers::ByContact;
 use crate::rows::ContactRow;
+use crate::time::Time;
 use std::alloc::{AllocError, Global};
 
 /// For each contact the messages that it asked for, those whose time has come, and an alarm for each
@@ -52,7 +53,7 @@ impl Ready {
     ) -> Result<(), AllocError>
         ensures { OnOk result (IsPlaced self.old self.new contact n goes row) }
     {
-        let awake = goes && row.expiry <= self.clocks.of(contact);
+        let awake = goes && row.expiry.milliseconds() <= self.clocks.of(contact);
         self.asked.mark(contact, n, goes && row.asked)?;
         self.awake.mark(contact, n, awake)?;
         self.alarms.add_if(goes && !awake, contact, row.expiry, n)?;
@@ -64,7 +65,7 @@ impl Ready {
         &mut self,
         contact: u8,
         n: u32,
-        was: u64,
+        was: Time,
         goes: bool,
         row: ContactRow,
     ) -> Result<(), AllocError>
@@ -76,7 +77,7 @@ impl Ready {
     }
 
     /// An alarm rings: its message is awake.
-    pub(crate) fn ring(&mut self, contact: u8, time: u64, n: u32) -> Result<(), AllocError>
+    pub(crate) fn ring(&mut self, contact: u8, time: Time, n: u32) -> Result<(), AllocError>
         ensures { OnOk result (StandsOn self.old self.new) }
     {
         self.awake.mark(contact, n, true)?;

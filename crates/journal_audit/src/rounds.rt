@@ -11,10 +11,10 @@ ghost use Rattle.journal_audit.specs.Rounding.{AreMarked, AreStable, is_bad_by, 
 ghost use Rattle.journal_audit.specs.Rounding.{is_marked, is_next, is_next_at, IsGraphOfLines};
 ghost use Rattle.journal_audit.specs.Rounding.{round_count};
 
+use crate::answer::Answer;
 use crate::messages::{Line, Messages};
 use std::alloc::{AllocError, Global};
 use sync_ids::{GroupId, MessageId};
-use sync_rules::Judgement;
 
 // ---- one message
 
@@ -63,25 +63,21 @@ fn any_bad(messages: &Messages, marks: &[bool], group: &GroupId, deps: &[Message
 }
 
 // Whether a message of this group is good by those that are marked.
-fn is_good_by(messages: &Messages, marks: &[bool], group: &GroupId, answer: &Judgement) -> bool
+#[tactic(auto, using(crate::proofs::Answered::good_parts))]
+fn is_good_by(messages: &Messages, marks: &[bool], group: &GroupId, answer: &Answer) -> bool
     requires { length marks.now ≡ length messages.now.lines }
     ensures { result ≡ is_good_by (held_in messages.now.lines) marks.now group.now answer.now }
 {
-    match answer {
-        Judgement::Refuse => false,
-        Judgement::Accept { deps, .. } => all_good(messages, marks, group, deps.as_slice()),
-    }
+    !answer.is_refused() && all_good(messages, marks, group, answer.deps())
 }
 
 // Whether it is bad by them.
-fn is_bad_by(messages: &Messages, marks: &[bool], group: &GroupId, answer: &Judgement) -> bool
+#[tactic(auto, using(crate::proofs::Answered::bad_parts))]
+fn is_bad_by(messages: &Messages, marks: &[bool], group: &GroupId, answer: &Answer) -> bool
     requires { length marks.now ≡ length messages.now.lines }
     ensures { result ≡ is_bad_by (held_in messages.now.lines) marks.now group.now answer.now }
 {
-    match answer {
-        Judgement::Refuse => true,
-        Judgement::Accept { deps, .. } => any_bad(messages, marks, group, deps.as_slice()),
-    }
+    answer.is_refused() || any_bad(messages, marks, group, answer.deps())
 }
 
 // The one or the other.

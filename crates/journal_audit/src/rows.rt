@@ -7,6 +7,7 @@ ghost use Rattle.sync_rules.specs.Sessions.{goes_sooner};
 ghost use Rattle.journal_audit.specs.Early.{goes_early};
 ghost use Rattle.journal_audit.specs.Rows.{changed_by};
 
+use crate::time::Time;
 use std::alloc::{AllocError, Global};
 use std::collections::BTreeMap;
 use std::marker::Model;
@@ -25,7 +26,7 @@ pub(crate) struct ContactRow {
     /// How often it was sent or offered since.
     pub(crate) tries: u8,
     /// The time in milliseconds from which it may be sent or offered again.
-    pub(crate) expiry: u64,
+    pub(crate) expiry: Time,
 }
 
 impl Model for ContactRow {
@@ -106,7 +107,7 @@ fn no_row() -> ContactRow
         owed: false,
         asked: false,
         tries: 0,
-        expiry: 0,
+        expiry: Time::new(0),
     }
 }
 
@@ -114,7 +115,11 @@ impl ContactRow {
     pub(crate) fn is_none(self) -> bool
         ensures { result ≡ is_no_row self }
     {
-        !self.seen && !self.owed && !self.asked && self.tries == 0 && self.expiry == 0
+        !self.seen
+            && !self.owed
+            && !self.asked
+            && self.tries == 0
+            && self.expiry.milliseconds() == 0
     }
 
     // The message was offered.
@@ -122,7 +127,7 @@ impl ContactRow {
         ensures { result ≡ row_offered now latency self }
     {
         self.tries = one_more_try(self.tries);
-        self.expiry = expiry_after(now, latency, self.tries);
+        self.expiry = Time::new(expiry_after(now, latency, self.tries));
         self
     }
 
@@ -131,7 +136,8 @@ impl ContactRow {
     pub(crate) fn goes_sooner(self, latency: u32, now: u64) -> bool
         ensures { result ≡ goes_sooner latency now self }
     {
-        !self.asked && self.offered(now, latency).expiry < self.expiry
+        let sooner = self.offered(now, latency).expiry.milliseconds();
+        !self.asked && sooner < self.expiry.milliseconds()
     }
 
     /// The same of one that the contact has not seen.
@@ -149,7 +155,7 @@ impl ContactRow {
         self.owed = tried.owed;
         self.asked = tried.asked;
         self.tries = tried.tries.min(MAX_TRIES);
-        self.expiry = wait_for(tried);
+        self.expiry = Time::new(wait_for(tried));
         self
     }
 
@@ -167,7 +173,7 @@ impl ContactRow {
             RowChange::Asked => {
                 self.asked = true;
                 self.tries = 0;
-                self.expiry = 0;
+                self.expiry = Time::new(0);
             }
             RowChange::Offered(now, latency) => self = self.offered(*now, *latency),
             RowChange::Sent(now, latency) => {

@@ -12,7 +12,7 @@ use crate::facts::PlainFacts;
 use crate::messages::{Line, Messages};
 use std::collections::BTreeSet;
 use sync_ids::{GroupId, MessageId};
-use sync_rules::{Entry, Judgement};
+use sync_rules::Entry;
 
 /// Whether a dependency of a message of this group makes the message invalid.
 pub(crate) fn is_failing(messages: &Messages, group: &GroupId, id: &MessageId) -> bool
@@ -73,14 +73,15 @@ fn step_accepted(messages: &Messages, line: &Line, deps: &[MessageId]) -> Option
 }
 
 // The step of a message that is judged and has not ended.
+#[tactic(auto, using(crate::proofs::Answered::step_refused, crate::proofs::Answered::step_by_deps))]
 fn step_open(messages: &Messages, line: &Line) -> Option<Entry>
     requires { AreLines messages.now }
     ensures { result ≡ step_open (steps_of messages.now) (held_of line.now) line.now.answer }
 {
-    match &line.answer {
-        Judgement::Refuse => Some(Entry::Invalid(line.id)),
-        Judgement::Accept { deps, .. } => step_accepted(messages, line, deps.as_slice()),
+    if line.answer.is_refused() {
+        return Some(Entry::Invalid(line.id));
     }
+    step_accepted(messages, line, line.answer.deps())
 }
 
 // The step of a message.

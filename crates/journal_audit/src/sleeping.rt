@@ -15,17 +15,6 @@ use crate::settling::{is_failing, is_served, step_at};
 use crate::sleepers::Sleepers;
 use std::alloc::{AllocError, Global};
 use sync_ids::{GroupId, MessageId};
-use sync_rules::Judgement;
-
-// The dependencies of a message of which its client says this.
-fn deps_in(answer: &Judgement) -> &[MessageId]
-    ensures { result.now ≡ deps_in answer.now }
-{
-    match answer {
-        Judgement::Refuse => &[],
-        Judgement::Accept { deps, .. } => deps.as_slice(),
-    }
-}
 
 // The first of these dependencies, from this place on, that is not served to a message of this group.
 fn unserved(messages: &Messages, group: &GroupId, deps: &[MessageId], from: usize) -> Option<usize>
@@ -58,7 +47,7 @@ fn sleeps_on(messages: &Messages, hints: &mut Hints, id: &MessageId, n: u32) -> 
     if is_failing(messages, &group, id) {
         return false;
     }
-    match unserved(messages, &group, deps_in(&line.answer), hints.of(n)) {
+    match unserved(messages, &group, line.answer.deps(), hints.of(n)) {
         Some(k) => {
             hints.set(n, k);
             true
@@ -135,7 +124,7 @@ pub(crate) fn lay_down(
     let Some(line) = messages.get(n) else {
         return Ok(());
     };
-    add_under(alloc, sleepers, deps_in(&line.answer), n)?;
+    add_under(alloc, sleepers, line.answer.deps(), n)?;
     waiting.remove(n);
     Ok(())
 }

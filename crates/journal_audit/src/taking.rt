@@ -15,6 +15,7 @@ ghost use Rattle.journal_audit.specs.Numbers.{has};
 ghost use Rattle.journal_audit.specs.Plain.{IsPlainSound, KnowsMeanings, facts_of, rest_after};
 ghost use Rattle.journal_audit.specs.Rows.{changed_by};
 
+use crate::answer::Answer;
 use crate::due::may_go;
 use crate::facts::PlainFacts;
 use crate::groups::Groups;
@@ -66,6 +67,19 @@ fn judge<C: Clients>(
         Some(kind) => clients.judge(alloc, kind, message),
         None => Ok(Judgement::Refuse),
     }
+}
+
+// The same as it is kept.
+fn answer_to<C: Clients>(
+    alloc: Global,
+    groups: &Groups,
+    clients: &C,
+    message: &Message,
+) -> Result<Answer, AllocError>
+    ensures { IfOk result (λ a. a ≡ verdict_in (C.meaning clients.now) groups.now message.now) }
+{
+    let judgement = judge(alloc, groups, clients, message)?;
+    Answer::new(alloc, judgement)
 }
 
 // A message that ends waits no more, if it was judged.
@@ -132,7 +146,7 @@ impl PlainFacts {
         ensures id { IfOk result (λ id. id ≡ message_id_of message) }
     {
         let id = id_known(known, &message);
-        let answer = judge(alloc, &self.groups, clients, &message)?;
+        let answer = answer_to(alloc, &self.groups, clients, &message)?;
         let n = self.messages.len();
         self.waiting.add(n)?;
         self.hints.add()?;
@@ -140,8 +154,8 @@ impl PlainFacts {
         self.messages.hold(Line {
             id,
             message,
-            origin: from,
             answer,
+            origin: from,
             judged: false,
             invalid: false,
             delivered: false,

@@ -10,10 +10,11 @@ ghost use Rattle.journal_state.specs.Taking.{HasNextNumbers};
 ghost use Rattle.journal_state.specs.Whole.{KnowsJudgements};
 
 use crate::state::State;
+use crate::steps::same_step;
 use batch_tests::id_brought;
 use std::alloc::{AllocError, Global};
 use sync_rules::laws::allows_is_allowed;
-use sync_rules::{Batch, Clients, Entry, MAX_STEPS, same_entry};
+use sync_rules::{Batch, Clients, Entry, MAX_STEPS};
 
 /// Whether a batch begins with a step.
 fn begins_settling(entries: &[Entry]) -> bool
@@ -61,7 +62,7 @@ impl State {
             return Ok(false);
         };
         let open = self.entry_of(step);
-        if !same_entry(&open, entry) {
+        if !same_step(&open, entry) {
             return Ok(false);
         }
         self.make(alloc, clients, step, &open)?;
@@ -115,6 +116,7 @@ impl State {
     {
         self.bring_for(batch.entries());
         let id = id_brought(batch.entries());
+        self.announce(batch.entries(), &id)?;
         if !self.allows_batch(alloc, clients, &batch, id)? {
             return Ok(false);
         }

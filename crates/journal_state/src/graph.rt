@@ -52,6 +52,14 @@ impl CountedGraph {
         self.graph.reserve(nodes)
     }
 
+    /// Makes a name known that may be held next, so that it is hashed once. Nothing that is seen
+    /// changes. It fails only for want of memory.
+    pub(crate) fn announce(&mut self, name: [u8; 32]) -> Result<(), AllocError>
+        ensures { self.new ≡ self.old }
+    {
+        self.graph.announce(name)
+    }
+
     /// Holds a message of a group under a new name, and answers its number; takes no memory.
     pub(crate) fn hold(&mut self, name: [u8; 32], group: u32) -> u32
         requires new { node_number self.old.nodes name ≡ None }

@@ -11,8 +11,9 @@ ghost use Rattle.journal_state.specs.Whole.{KnowsJudgements};
 
 use crate::state::State;
 use retry_table::Retry;
+use std::alloc::AllocError;
 use sync_ids::{Message, MessageId};
-use sync_rules::Origin;
+use sync_rules::{Entry, Origin};
 
 /// Takes an id out of what is wanted from each of that many contacts.
 fn unwant_from_all(retry: &mut Retry, contacts: u32, id: &MessageId)
@@ -24,7 +25,35 @@ fn unwant_from_all(retry: &mut Retry, contacts: u32, id: &MessageId)
     }
 }
 
+/// The message that the last entry brings, if it brings one.
+fn message_brought(entries: &[Entry]) -> Option<&Message> {
+    match entries.last() {
+        Some(Entry::Author(message) | Entry::Arrive(_, message) | Entry::Kept(_, message)) => {
+            Some(message)
+        }
+        _ => None,
+    }
+}
+
 impl State {
+    /// Notes the group of a message that may be held next, and makes its id known to the graph, so
+    /// that each is hashed once. Nothing that is seen changes. It fails only for want of memory.
+    pub(crate) fn announce(
+        &mut self,
+        entries: &[Entry],
+        id: &Option<MessageId>,
+    ) -> Result<(), AllocError>
+        ensures { self.new ≡ self.old }
+    {
+        if let Some(message) = message_brought(entries) {
+            self.table.find_group(&message.group());
+        }
+        match id {
+            Some(id) => self.graph.announce(id.0),
+            None => Ok(()),
+        }
+    }
+
     /// Holds a message under its id, where its group is known and the id is new, and answers its
     /// arrival number; it is then wanted from nobody.
     pub(crate) fn hold(&mut self, id: MessageId, message: Message, origin: Origin) -> u32

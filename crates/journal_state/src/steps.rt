@@ -1,7 +1,8 @@
 //! The next step of a journal.
-ghost use Rattle.std.specs.Prelude.{◌≡◌, ◌+◌, ◌<◌, ◌≤◌, ◌↔◌, length, IsTrue, IfOk, IfSome, OnOk};
+ghost use Rattle.std.specs.Prelude.{◌≡◌, ◌+◌, ◌<◌, ◌≤◌, ◌↔◌, true, length, IsTrue, IfOk, IfSome, OnOk};
 ghost use Rattle.std.specs.Prelude.{OnErr, Some};
 ghost use Rattle.std.specs.Option.{option_map};
+ghost use Rattle.sync_rules.specs.Allows.{is_deliver, is_invalid, is_judged, same_entry};
 ghost use Rattle.sync_rules.specs.Facts.{after};
 ghost use Rattle.sync_rules.specs.Left.{left_of};
 ghost use Rattle.sync_rules.specs.Clients.{Meaning};
@@ -12,8 +13,60 @@ ghost use Rattle.journal_state.specs.Stepping.{entry_of, stepped};
 
 use crate::state::State;
 use message_graph::Step;
+use same_bytes::same_bytes;
 use std::alloc::{AllocError, Global};
-use sync_rules::{Clients, Entry, laws};
+use sync_ids::MessageId;
+use sync_rules::{Clients, Entry, laws, same_entry};
+
+/// Whether an entry says that the message of this id is judged.
+fn is_judged(id: &MessageId, entry: &Entry) -> bool
+    ensures { result ≡ is_judged id.now entry.now }
+{
+    match entry {
+        Entry::Judged(other) => same_bytes(id.as_bytes(), other.as_bytes()),
+        _ => false,
+    }
+}
+
+/// Whether an entry says that it is invalid.
+fn is_invalid(id: &MessageId, entry: &Entry) -> bool
+    ensures { result ≡ is_invalid id.now entry.now }
+{
+    match entry {
+        Entry::Invalid(other) => same_bytes(id.as_bytes(), other.as_bytes()),
+        _ => false,
+    }
+}
+
+/// Whether an entry says that it is delivered.
+fn is_deliver(id: &MessageId, entry: &Entry) -> bool
+    ensures { result ≡ is_deliver id.now entry.now }
+{
+    match entry {
+        Entry::Deliver(other) => same_bytes(id.as_bytes(), other.as_bytes()),
+        _ => false,
+    }
+}
+
+/// Whether two entries are the same, as `same_entry` has it; ids of steps are compared by words.
+fn is_step(found: &Entry, entry: &Entry) -> bool
+    ensures { result ≡ same_entry found.now entry.now }
+{
+    match found {
+        Entry::Judged(id) => is_judged(id, entry),
+        Entry::Deliver(id) => is_deliver(id, entry),
+        Entry::Invalid(id) => is_invalid(id, entry),
+        _ => same_entry(found, entry),
+    }
+}
+
+/// Whether an entry is the step that is open, as `same_entry` has it.
+pub(crate) fn same_step(found: &Entry, entry: &Entry) -> bool
+    ensures test { result ≡ same_entry found.now entry.now }
+    ensures same { result ≡ true → found.now ≡ entry.now }
+{
+    is_step(found, entry)
+}
 
 impl State {
     /// The next step of the journal: that of the first held message, in order of arrival, that has

@@ -1,7 +1,8 @@
 -- A file that is read, as an errand; and a run of the command that reads it.
-use Rattle.std.proofs.Common.{◌≡◌, ℕ, ◌+◌, ◌<◌, List, [], ◌∷◌, ◌++◌, length, refl, sym}
-use Rattle.std.proofs.Common.{subst, inl, inr, append_assoc, Result, Ok, Err, None, Some}
-use Rattle.std.specs.Prelude.{IsErrAnd}
+use Rattle.std.proofs.Common.{◌≡◌, ℕ, ◌+◌, ◌<◌, ◌≤◌, List, [], ◌∷◌, ◌++◌, append-nil, length, refl, sym}
+use Rattle.std.proofs.Common.{arith, drop, subst, inl, inr, append_assoc, Result, Ok, Err, None, Some, take}
+use Rattle.std.specs.Prelude.{IsErrAnd, min}
+use Rattle.std.proofs.lemmas.List.{length-take, take-append-drop}
 use Rattle.std.specs.Io.KnownBytes.{Appends}
 use Rattle.outside.specs.declared.limits.TheConstants.{MAX_JOURNAL}
 use Rattle.outside.specs.Faults.{CountRose}
@@ -12,6 +13,7 @@ use Rattle.outside.proofs.CallSteps.{run_then}
 use Rattle.sync_ids.specs.declared.records.Record.{Record}
 use Rattle.sync_rules.specs.declared.entries.Entry.{Entry}
 use Rattle.sync_rules.specs.declared.entries.Entry.TheVariants as entry
+use Rattle.sync_rules.specs.declared.states.Refused.{Refused}
 use Rattle.sync_rules.specs.Clients.{Meaning}
 use Rattle.sync_rules.specs.Facts.{Facts, after, after_batches, facts, takes_of}
 use Rattle.sync_rules.specs.Steps.{IsSettled}
@@ -35,15 +37,17 @@ use Rattle.sync_words.specs.Outcomes.{came_to}
 use Rattle.store_commands.specs.Commit.{SettlesAnew}
 use Rattle.file_standing.specs.Standing.{stands}
 use Rattle.store_commands.specs.Load.{HasFacts, IsLoaded, LoadKeeps, LoadedBy, MayExtend}
-use Rattle.store_commands.specs.Serving.{IsServed, ServesOn}
+use Rattle.store_commands.specs.Serving.{IsServed, ServesOn, WasLoaded}
 use Rattle.store_commands.specs.Show.{LeavesFilesSo}
 use Rattle.store_commands.proofs.Stopped.{input_unread, stops_memory, stops_none, stops_too_much}
-use Rattle.store_commands.proofs.Stopped.{stops_unread}
+use Rattle.store_commands.proofs.Stopped.{stops_refused, stops_unread}
 use Rattle.mailbox_commands.specs.Tests.{mailbox_test}
+use Rattle.mailbox_commands.specs.declared.taking.TheConstants.{MAX_MAIL}
 use Rattle.mailbox_commands.specs.Laws.{MailIsBoxed}
 use Rattle.store_commands.specs.Running.{DoesErrand, FailsToPrint, LacksRoom, PrintsOut}
 use Rattle.store_commands.specs.Running.{RunsErrand}
-use Rattle.mailbox_commands.specs.Taking.{HasTakenMail, IsInput, IsMail, IsNextTake, ReadsNextBatch}
+use Rattle.mailbox_commands.specs.Taking.{HasTakenBytes, HasTakenMail, IsInput, IsMail, IsNextTake}
+use Rattle.mailbox_commands.specs.Taking.{IsTooMuch, ReadsNextBatch, lying}
 use Rattle.mailbox_commands.specs.Taking.{TellsEnd, in_errand, outcome_at, taken_text}
 use Rattle.store_commands.specs.Errands.{running}
 use Rattle.store_commands.proofs.Errands.{errand_printed}
@@ -379,3 +383,57 @@ serves_unread clients s o input input' outcome.TooMuch served unread = served
 serves_unread clients s o input input' outcome.ReadFault served unread = served
 serves_unread clients s o input input' outcome.Memory served unread = served.ready
 serves_unread clients s o input input' _ served unread = absurd unread
+
+-- ---- over bytes that lie in memory
+
+lying_mail : (bytes : List ℕ) → length bytes ≤ MAX_MAIL → IsMail (lying bytes) (lying []) bytes
+lying_mail bytes short =
+    record { consumed = sym (append-nil bytes); at_end = refl; within = short }
+
+-- one byte more than the greatest length
+lying_too_much : (bytes : List ℕ) → MAX_MAIL < length bytes
+    → IsTooMuch (lying bytes) (lying (drop (MAX_MAIL + 1) bytes))
+lying_too_much bytes long =
+    let cut : length (take (MAX_MAIL + 1) bytes) ≡ min (MAX_MAIL + 1) (length bytes) =
+    length-take (MAX_MAIL + 1) bytes in
+    record {
+      read = take (MAX_MAIL + 1) bytes;
+      consumed = sym (take-append-drop (MAX_MAIL + 1) bytes);
+      past = omega (arith, cut, long);
+    }
+
+module _ (clients : Meaning) (contact : ℕ) (bytes : List ℕ) (old new : Outside) (out : Stream)
+    (s : StoreValue) (was : WasLoaded clients s old new) where
+  pub bytes_refused : (why : Refused) → mailbox_test s.state.facts contact ≡ Some why
+      → HasTakenBytes clients contact bytes old new out out (outcome.Refused why)
+  bytes_refused why tested = record {
+    input' = lying bytes;
+    unfailing = refl;
+    taken =
+        inl (stops_refused clients (λ f. mailbox_test f contact) _ old new out out was.run
+        (record { same = refl; same_faults = refl }) s was.rests was.facts why tested
+        (record { same = refl; same_faults = refl }));
+  }
+
+  pub bytes_too_much : mailbox_test s.state.facts contact ≡ None → MAX_MAIL < length bytes
+      → HasTakenBytes clients contact bytes old new out out outcome.TooMuch
+  bytes_too_much tested long = record {
+    input' = lying (drop (MAX_MAIL + 1) bytes);
+    unfailing = refl;
+    taken =
+        inl (stops_too_much clients (λ f. mailbox_test f contact) _ old new out out was.run
+        (record { same = refl; same_faults = refl }) s was.rests was.facts tested
+        (lying_too_much bytes long));
+  }
+
+  pub bytes_taken : (later : Outside) (out' : Stream) (came : Outcome)
+      → mailbox_test s.state.facts contact ≡ None → length bytes ≤ MAX_MAIL
+      → RunsErrand clients (in_errand clients contact bytes) s new later out out' came
+      → HasTakenBytes clients contact bytes old later out out' came
+  bytes_taken later out' came tested short ran = record {
+    input' = lying [];
+    unfailing = refl;
+    taken =
+        taken_read clients contact old new later (lying bytes) (lying []) out out' s bytes bytes came
+        was.run was.rests was.opened tested (lying_mail bytes short) refl ran;
+  }

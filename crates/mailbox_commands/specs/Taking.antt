@@ -1,5 +1,5 @@
 -- What `mailbox in` does: it takes the records of its input, and prints how many.
-use Rattle.std.specs.Prelude.{◌≡◌, ◌⊎◌, ℕ, ◌+◌, ◌≤◌, List, [], ◌∷◌, ◌++◌, codes, length, Result, Ok}
+use Rattle.std.specs.Prelude.{◌≡◌, ◌⊎◌, ℕ, ◌+◌, ◌≤◌, List, [], ◌∷◌, ◌++◌, codes, length, Result, Ok, Some}
 use Rattle.std.specs.Prelude.{Err}
 use Rattle.std.specs.Fmt.{decimal}
 use Rattle.std.specs.Global.{Vec}
@@ -111,3 +111,16 @@ HasTakenMail clients contact old new input input' out out' came =
     StopsEarly clients (λ f. mailbox_test f contact)
     (InputStops (IsTooMuch input input') input input') old new out out' came
     ⊎ TakesMail clients contact old new input input' out out' came
+
+-- ---- over bytes that lie in memory
+
+-- a stream of which these bytes are left, and of which no call failed
+abbrev pub lying : List ℕ → Stream
+lying bytes = record { bytes = Some bytes; faults = 0 }
+
+-- the command did what it does over an input of these bytes, of which no read failed
+pub record HasTakenBytes (clients : Meaning) (contact : ℕ) (bytes : List ℕ) (old new : Outside)
+    (out out' : Stream) (came : Outcome) : Type 0 where
+  pub input' : Stream
+  pub unfailing : input'.faults ≡ 0
+  pub taken : HasTakenMail clients contact old new (lying bytes) input' out out' came

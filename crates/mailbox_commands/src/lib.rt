@@ -10,4 +10,4 @@ mod taking;
 mod tests;
 
 pub use sending::{Sending, send_mail, send_mail_loaded};
-pub use taking::{MAX_MAIL, take_mail, take_mail_loaded, taken_line};
+pub use taking::{MAX_MAIL, take_mail, take_mail_bytes, take_mail_loaded, taken_line};

@@ -14,7 +14,7 @@ ghost use Rattle.store_commands.specs.Serving.{IsServed, ServesOn, StaysSettled,
 ghost use Rattle.mailbox_commands.specs.Tests.{MayBeginWith};
 ghost use Rattle.store_commands.specs.Running.{DoesErrand, PrintedSo, PrintsOut, RunsErrand, ended_as};
 ghost use Rattle.mailbox_commands.specs.Taking.{HasTakenMail, IsInput, TellsEnd, in_errand, outcome_at};
-ghost use Rattle.mailbox_commands.specs.Taking.{taken_text};
+ghost use Rattle.mailbox_commands.specs.Taking.{HasTakenBytes, taken_text};
 
 use crate::tests::refusal;
 use mailbox_core::{BoxEnd, BoxEnding, read_box};
@@ -74,6 +74,34 @@ pub fn take_mail_loaded<D: Disk, S: Source, W: Sink, C: Clients>(
     }
     let bytes = read_mail(alloc, input)?;
     take_bytes(alloc, store, contact, bytes.as_slice(), disk, out, clients)
+}
+
+/// The same of a store that was loaded, over bytes that lie in memory: they are the input, of which no
+/// read fails, and they are not copied.
+pub fn take_mail_bytes<D: Disk, W: Sink, C: Clients>(
+    alloc: Global,
+    store: &mut Store,
+    contact: u8,
+    bytes: &[u8],
+    disk: &mut D,
+    out: &mut W,
+    clients: &C,
+) -> Result<(), Outcome>
+    requires ready { MayExtend (C.meaning clients.now) store.old (D.tells disk.old).files }
+    ensures taken { (start : D)
+        → WasLoaded (C.meaning clients.now) store.old (D.tells start) (D.tells disk.old)
+        → HasTakenBytes (C.meaning clients.now) contact bytes.now (D.tells start) (D.tells disk.new)
+        (W.tells out.old) (W.tells out.new) (came_to result) }
+    ensures serves { IsServed (C.meaning clients.now) store.old (D.tells disk.old)
+        → ServesOn (C.meaning clients.now) store.new (D.tells disk.new) (came_to result) }
+{
+    if let Some(why) = refusal(store, contact) {
+        return Err(Outcome::Refused(why));
+    }
+    if bytes.len() as u64 > MAX_MAIL {
+        return Err(Outcome::TooMuch);
+    }
+    take_bytes(alloc, store, contact, bytes, disk, out, clients)
 }
 
 // Reads the input whole.

@@ -1,7 +1,8 @@
 -- The edges of each name: what a push of a name or of an edge leaves.
-use Rattle.std.proofs.Common.{◌≡◌, ℕ, zero, suc, ◌+◌, ◌<◌, ◌≤◌, true, false, cond, if◌then◌else◌, List, [], ◌∷◌, ◌++◌, length, map, Option, None, Some, refl, sym, ap, subst, ◌∙◌, get_or, set, arith, inl, inr, length-append}
+use Rattle.std.proofs.Common.{◌≡◌, ℕ, zero, suc, ◌+◌, ◌<◌, ◌≤◌, true, false, cond, if◌then◌else◌, List, [], ◌∷◌, ◌++◌, length, map, Option, None, Some, slice_get, refl, sym, ap, subst, ◌∙◌, get_or, set, arith, inl, inr, length-append}
 use Rattle.std.proofs.lemmas.List.{get_or-set_same, get_or-set_other, get_or_append_left, get_or_push, get_or-map, length-map, map-set, length-set, map-append}
 use Rattle.std.proofs.lemmas.Bool.{cases_eq, cases_lt, false_from_ne_true}
+use Rattle.std.proofs.lemmas.Option.{get_or_from_slice_get, slice_get_within}
 use Rattle.std.specs.Cmp.Lexicographic.{bytes_decides}
 use Rattle.message_graph.specs.declared.index.Slot.{Slot}
 use Rattle.message_graph.specs.declared.index.Edge.{Edge}
@@ -81,6 +82,11 @@ module _ (names : List (List ℕ)) (slots : List Slot) (kept : List Edge) (linke
   found_name name place h =
       let t : Tells (same_name name) names (Some place) = subst (Tells (same_name name) names) h (position_tells (same_name name) names) in
       (t.0, same_equal _ _ (t.1 []))
+
+  -- a name stands at one place
+  pub placed_at : (name : List ℕ) (place : ℕ) → slice_get names place ≡ Some name → place_of names name ≡ Some place
+  placed_at name place h =
+      ap (place_of names) (sym (get_or_from_slice_get names place name [] h)) ∙ linked.apart place (slice_get_within names place name h)
 
   -- other slots with the same edges
   pub relinked : (others : List Slot) → length others ≡ length slots → lasts_of others ≡ lasts_of slots → IsLinked names others kept

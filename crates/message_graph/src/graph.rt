@@ -71,6 +71,20 @@ impl Graph {
         Ok(())
     }
 
+    /// Makes a name known that may be held next, so that it is hashed once: to look it up and to hold
+    /// it is a comparison then. Nothing that is seen changes. It fails only for want of memory.
+    pub fn announce(&mut self, name: [u8; 32]) -> Result<(), AllocError>
+        ensures { self.new ≡ self.old }
+    {
+        let room = match self.spare.checked_add(1) {
+            None => return Err(AllocError),
+            Some(room) => room,
+        };
+        self.index.reserve(room, 0)?;
+        self.index.add(name);
+        Ok(())
+    }
+
     /// Holds a message of a group under a new name, and answers its number; takes no memory.
     pub fn hold(&mut self, name: [u8; 32], group: u32) -> u32
         requires new { node_number self.old.nodes name ≡ None }

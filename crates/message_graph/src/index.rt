@@ -7,6 +7,7 @@ ghost use Rattle.message_graph.specs.Links.{place_of, holder_of, edge_at, last_b
 ghost use Rattle.message_graph.specs.Links.{first_for, first_place, holder_at, holder_if};
 
 use indexmap::IndexSet;
+use same_bytes::same_bytes;
 use std::alloc::{AllocError, Global};
 use std::hash::{Hash, Hasher, RandomState};
 use std::marker::Model;
@@ -67,6 +68,7 @@ pub(crate) struct Index {
     slots: Vec<Slot>,
     places: Vec<u32>,
     edges: Vec<Edge>,
+    recent: u32,
 }
 
 impl Model for Index {
@@ -140,6 +142,7 @@ impl Index {
             slots: Vec::new(alloc),
             places: Vec::new(alloc),
             edges: Vec::new(alloc),
+            recent: 0,
         }
     }
 
@@ -178,6 +181,16 @@ impl Index {
 
     /// The number of the node that holds the name.
     pub(crate) fn holder(&self, name: &[u8; 32]) -> Option<u32>
+        ensures { result ≡ holder_of self.now name.now }
+    {
+        match self.recent_place(name) {
+            Some(place) => self.slots[place as usize].holder,
+            None => self.sought_holder(name),
+        }
+    }
+
+    /// The same, by the hash of the name.
+    fn sought_holder(&self, name: &[u8; 32]) -> Option<u32>
         ensures { result ≡ holder_of self.now name.now }
     {
         let place = self.names.get_index_of(&Key(*name))?;
@@ -259,6 +272,40 @@ impl Index {
         place as u32
     }
 
+    /// The place of the name that was added last by `add`, if it is this one.
+    fn recent_place(&self, name: &[u8; 32]) -> Option<u32>
+        ensures place { IfSome result (λ place. place_of self.now.names name.now ≡ Some place) }
+        ensures within { IfSome result (λ place. place < length self.now.names) }
+    {
+        let key = self.names.get_index(self.recent as usize)?;
+        if same_bytes(&key.0, name) {
+            Some(self.recent)
+        } else {
+            None
+        }
+    }
+
+    /// The place of a name, which is added where it is new. When it is asked for next, it is found by
+    /// a comparison.
+    pub(crate) fn add(&mut self, name: [u8; 32]) -> u32
+        requires { 0 < self.old.room }
+        ensures place { place_of self.new.names name ≡ Some result }
+        ensures edges { self.new.edges ≡ self.old.edges }
+        ensures holders { (other : List ℕ) → holder_of self.new other ≡ holder_of self.old other }
+        ensures numbers { self.new.numbers ≡ self.old.numbers }
+        ensures room { self.old.room ≤ self.new.room + 1 }
+        ensures edge_room { self.new.edge_room ≡ self.old.edge_room }
+    {
+        match self.recent_place(&name) {
+            Some(place) => place,
+            None => {
+                let place = self.place(name);
+                self.recent = place;
+                place
+            }
+        }
+    }
+
     /// The next node holds the name from now on; answers the last edge of those who wait for it.
     pub(crate) fn hold(&mut self, name: [u8; 32], number: u32) -> Option<u32>
         requires room { 0 < self.old.room }
@@ -273,7 +320,7 @@ impl Index {
         ensures edges { self.new.edges ≡ self.old.edges }
         ensures room { self.old.room ≤ self.new.room + 1 }
     {
-        let place = self.place(name);
+        let place = self.add(name);
         self.places.push(place).unwrap();
         let slot = &mut self.slots[place as usize];
         slot.holder = Some(number);

@@ -21,7 +21,7 @@ use Rattle.node_service.specs.declared.node.Reply.{Reply}
 use Rattle.node_requests.specs.Requests.{DoesRequest, is_done_by_node}
 use Rattle.node_life.specs.Inputs.{ReadsGiven}
 use Rattle.node_life.specs.Requests.{AnswersAsked, AnswersOr, AnswersRequest, AnswersSettled}
-use Rattle.node_life.specs.Requests.{AreStreams, Said, StaysReady, StaysUnsettled}
+use Rattle.node_life.specs.Requests.{AreStreams, HasDoneOver, Said, StaysReady, StaysUnsettled}
 use Rattle.node_life.specs.Requests.{bare, said_by, said_of}
 use Rattle.node_life.specs.Settling.{HasSettled, StandsNow}
 use Rattle.node_life.proofs.SettleLemmas.{stands_ready}
@@ -154,3 +154,11 @@ module _ {H : Type 0} (tells : H → Outside) (clients : Meaning) where
     });
     synced = inr stands;
   }
+
+-- what was done for a command is so for what is that command
+pub done_as : {H : Type 0} (tells : H → Outside) (clients : Meaning) (kept : List ℕ)
+    (asked is : Command) (old new : H) (s : StoreValue) (reply : Reply) (out : List ℕ) → asked ≡ is
+    → HasDoneOver tells clients kept is old new s reply out
+    → HasDoneOver tells clients kept asked old new s reply out
+done_as tells clients kept asked is old new s reply out same done =
+    subst (λ (a : Command). HasDoneOver tells clients kept a old new s reply out) (sym same) done

@@ -141,6 +141,22 @@ AnswersOr tells clients given asked old new said =
     ((new ≡ old) × (said ≡ bare outcome.Memory))
     ⊎ AnswersAsked tells clients given (Do asked) old new said
 
+-- a command was answered over these streams, and the store may be used again
+pub record HasDone {H : Type 0} (tells : H → Outside) (clients : Meaning)
+    (given : (input input' : Stream) → Type 0) (asked : Command) (old new : H) (s : StoreValue)
+    (reply : Reply) (out : List ℕ) : Type 0 where
+  pub answers : AnswersAsked tells clients given (Do asked) old new (said_by reply out)
+  pub ready : StaysReady clients s (tells new) reply
+
+-- so over streams of which these bytes were left, and of which no call failed
+pub record HasDoneOver {H : Type 0} (tells : H → Outside) (clients : Meaning) (kept : List ℕ)
+    (asked : Command) (old new : H) (s : StoreValue) (reply : Reply) (out : List ℕ) : Type 0 where
+  pub input : Stream
+  pub input' : Stream
+  pub bytes : input.bytes ≡ Some kept
+  pub unfailing : input'.faults ≡ input.faults
+  pub done : HasDone tells clients (AreStreams input input') asked old new s reply out
+
 -- how much of an input is enough for a command: all of it, or as much as it reads
 abbrev pub is_enough : Command → (most len : ℕ) → Bool
 is_enough asked most len =

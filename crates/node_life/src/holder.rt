@@ -1,22 +1,25 @@
 //! The node that holds a store.
 ghost use Rattle.std.specs.Prelude.{◌≡◌, [], List, ℕ, length, true};
 ghost use Rattle.commands.specs.Reading.{IsCommandWithin};
-ghost use Rattle.commands.specs.Reading.Asked.{Do};
+ghost use Rattle.commands.specs.declared.command.Command.TheVariants as command;
 ghost use Rattle.request_frames.specs.Laws.{KeepsOf};
 ghost use Rattle.request_frames.specs.Requests.{Request};
 ghost use Rattle.request_frames.specs.declared.reader.Stage.TheVariants as stage;
 ghost use Rattle.store_commands.specs.Serving.{IsReadyToServe};
 ghost use Rattle.node_requests.specs.Requests.{is_done_by_node};
+ghost use Rattle.node_service.specs.Lives.{shown_bytes};
 ghost use Rattle.node_life.specs.Inputs.{ReadsGiven};
-ghost use Rattle.node_life.specs.Requests.{AnswersAsked, AnswersOr, AreStreams, StaysReady, bare};
+ghost use Rattle.node_life.specs.Requests.{AnswersOr, AnswersRequest, AreStreams, HasDone};
+ghost use Rattle.node_life.specs.Requests.{HasDoneOver, StaysReady, bare};
 ghost use Rattle.node_life.specs.Requests.{is_enough, said_by, said_of};
 ghost use Rattle.node_life.specs.Requests.{goodbye};
 
 use crate::input::{Failing, Given};
 use commands::Command;
+use mailbox_commands::take_mail_bytes;
 use node_requests::obey;
-use node_service::{Node, Reply, command_of, reads_most};
-use outside::{Host, MemSink, Source};
+use node_service::{Node, Output, Reply, command_of, reads_most};
+use outside::{Host, Source};
 use request_frames::InputSize;
 use std::alloc::Global;
 use std::hash::RandomState;
@@ -52,27 +55,53 @@ impl<'a, C: Clients, H: Host> Node<H> for Holder<'a, C> {
         most: usize,
         kept: &[u8],
         host: &mut H,
-        out: &mut MemSink,
+        out: &mut Output,
     ) -> Reply {
-        match command_of(self.alloc, words) {
-            Ok(asked) => {
-                let (alloc, hasher) = (self.alloc, self.hasher);
-                let store = &mut self.store;
-                answer_command(
-                    alloc,
-                    hasher,
-                    store,
-                    asked,
-                    size,
-                    most,
-                    kept,
-                    host,
-                    out,
-                    self.clients,
-                )
-            }
-            Err(fault) => nothing_done(Outcome::from(fault)),
-        }
+        let (alloc, hasher) = (self.alloc, self.hasher);
+        let store = &mut self.store;
+        answer_request(
+            alloc,
+            hasher,
+            store,
+            words,
+            size,
+            most,
+            kept,
+            host,
+            out,
+            self.clients,
+        )
+    }
+}
+
+/// Answers the request of these words over a store that is ready, of whose input this is what was
+/// kept, at most so many bytes. After each answer but that of a fault of the disk, which ends the
+/// node, the store may be asked again.
+pub fn answer_request<H: Host, C: Clients>(
+    alloc: Global,
+    hasher: RandomState,
+    store: &mut Store,
+    words: &[u8],
+    size: InputSize,
+    most: usize,
+    kept: &[u8],
+    host: &mut H,
+    out: &mut Output,
+    clients: &C,
+) -> Reply
+    requires ready { IsReadyToServe (C.meaning clients.now) store.old (H.tells host.old) }
+    requires empty { out.old.bytes ≡ [] }
+    ensures answered { (request : Request) → request.words ≡ words.now
+        → KeepsOf request (stage.Whole size most) kept.now
+        → AnswersRequest H.tells (C.meaning clients.now) request host.old host.new result.came
+        (shown_bytes result.shown out.new.bytes) result.ends }
+    ensures ready { StaysReady (C.meaning clients.now) store.new (H.tells host.new) result }
+{
+    match command_of(alloc, words) {
+        Ok(asked) => answer_command(
+            alloc, hasher, store, asked, size, most, kept, host, out, clients,
+        ),
+        Err(fault) => nothing_done(Outcome::from(fault)),
     }
 }
 
@@ -86,7 +115,7 @@ fn answer_command<H: Host, C: Clients>(
     most: usize,
     kept: &[u8],
     host: &mut H,
-    out: &mut MemSink,
+    out: &mut Output,
     clients: &C,
 ) -> Reply
     requires within { IsCommandWithin asked }
@@ -110,8 +139,7 @@ fn answer_command<H: Host, C: Clients>(
             if !is_enough(&asked, most, kept) {
                 return nothing_done(Outcome::Memory);
             }
-            let mut input = Given::of(kept);
-            do_command(alloc, hasher, store, asked, host, &mut input, out, clients)
+            do_kept(alloc, hasher, store, asked, kept, host, out, clients)
         }
     }
 }
@@ -124,6 +152,35 @@ fn is_enough(asked: &Command, most: usize, kept: &[u8]) -> bool
     kept.len() < most || reads_most(asked) == 0 || (asked.reads_body() && MAX_BODY < most)
 }
 
+// Does what a request asks for, over an input of these bytes, and says what is answered. A mailbox file
+// is taken from where it lies, and other inputs are read.
+fn do_kept<H: Host, C: Clients>(
+    alloc: Global,
+    hasher: RandomState,
+    store: &mut Store,
+    asked: Command,
+    kept: &[u8],
+    host: &mut H,
+    out: &mut Output,
+    clients: &C,
+) -> Reply
+    requires within { IsCommandWithin asked }
+    requires ready { IsReadyToServe (C.meaning clients.now) store.old (H.tells host.old) }
+    requires empty { out.old.bytes ≡ [] }
+    ensures { HasDoneOver H.tells (C.meaning clients.now) kept.now asked host.old host.new store.new
+        result out.new.bytes }
+{
+    match asked {
+        Command::MailboxIn(contact) => {
+            take_kept(alloc, store, contact, kept, host, out, clients)
+        }
+        asked => {
+            let mut input = Given::of(kept);
+            do_command(alloc, hasher, store, asked, host, &mut input, out, clients)
+        }
+    }
+}
+
 // Does what a request asks for, over this input, and says what is answered.
 fn do_command<H: Host, S: Source, C: Clients>(
     alloc: Global,
@@ -132,16 +189,15 @@ fn do_command<H: Host, S: Source, C: Clients>(
     asked: Command,
     host: &mut H,
     input: &mut S,
-    out: &mut MemSink,
+    out: &mut Output,
     clients: &C,
 ) -> Reply
     requires within { IsCommandWithin asked }
     requires ready { IsReadyToServe (C.meaning clients.now) store.old (H.tells host.old) }
     requires empty { out.old.bytes ≡ [] }
-    ensures answers { AnswersAsked H.tells (C.meaning clients.now)
-        (AreStreams (S.tells input.old) (S.tells input.new)) (Do asked) host.old host.new
-        (said_by result out.new.bytes) }
-    ensures ready { StaysReady (C.meaning clients.now) store.new (H.tells host.new) result }
+    ensures { HasDone H.tells (C.meaning clients.now)
+        (AreStreams (S.tells input.old) (S.tells input.new)) asked host.old host.new store.new result
+        out.new.bytes }
 {
     match asked {
         Command::Quit => goodbye(),
@@ -163,20 +219,42 @@ fn do_on_store<H: Host, S: Source, C: Clients>(
     asked: Command,
     host: &mut H,
     input: &mut S,
-    out: &mut MemSink,
+    out: &mut Output,
     clients: &C,
 ) -> Reply
     requires within { IsCommandWithin asked }
     requires done { is_done_by_node asked ≡ true }
     requires ready { IsReadyToServe (C.meaning clients.now) store.old (H.tells host.old) }
     requires empty { out.old.bytes ≡ [] }
-    ensures answers { AnswersAsked H.tells (C.meaning clients.now)
-        (AreStreams (S.tells input.old) (S.tells input.new)) (Do asked) host.old host.new
-        (said_by result out.new.bytes) }
-    ensures ready { StaysReady (C.meaning clients.now) store.new (H.tells host.new) result }
+    ensures { HasDone H.tells (C.meaning clients.now)
+        (AreStreams (S.tells input.old) (S.tells input.new)) asked host.old host.new store.new result
+        out.new.bytes }
 {
     match migrate_and_settle(store, host, clients) {
         Ok(()) => said(Outcome::of(obey(alloc, store, asked, host, input, out, clients))),
+        Err(came) => said(came),
+    }
+}
+
+// Takes the records of a mailbox file of these bytes, once the journal is settled.
+fn take_kept<H: Host, C: Clients>(
+    alloc: Global,
+    store: &mut Store,
+    contact: u8,
+    kept: &[u8],
+    host: &mut H,
+    out: &mut Output,
+    clients: &C,
+) -> Reply
+    requires ready { IsReadyToServe (C.meaning clients.now) store.old (H.tells host.old) }
+    requires empty { out.old.bytes ≡ [] }
+    ensures { HasDoneOver H.tells (C.meaning clients.now) kept.now (command.MailboxIn contact)
+        host.old host.new store.new result out.new.bytes }
+{
+    match migrate_and_settle(store, host, clients) {
+        Ok(()) => said(Outcome::of(take_mail_bytes(
+            alloc, store, contact, kept, host, out, clients,
+        ))),
         Err(came) => said(came),
     }
 }

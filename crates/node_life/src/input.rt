@@ -68,7 +68,9 @@ pub struct Failing {
 
 impl Failing {
     /// An input of which no call was made.
-    pub fn new() -> Failing {
+    pub fn new() -> Failing
+        ensures { result ≡ record { faults = 0 } }
+    {
         Failing { faults: 0 }
     }
 }

@@ -9,4 +9,5 @@ mod holder;
 mod input;
 mod life;
 
-pub use life::serve_requests;
+pub use holder::answer_request;
+pub use life::{begin, serve_requests};

@@ -50,8 +50,9 @@ pub fn serve_requests<H: Host, S: Source, W: Sink, C: Clients>(
     }
 }
 
-// Loads the store, and migrates and settles its journal.
-fn begin<H: Host, C: Clients>(
+/// Loads the store, and migrates and settles its journal: it is ready for requests. On `Err` the
+/// outcome is one of `NoStore`, `Damaged`, `DiskFault`, `Full` and `Memory`.
+pub fn begin<H: Host, C: Clients>(
     alloc: Global,
     hasher: RandomState,
     host: &mut H,

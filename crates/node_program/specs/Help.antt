@@ -19,7 +19,7 @@ use Rattle.node_program.specs.declared.texts.TheConstants.{OVERVIEW, INIT, CONTA
 use Rattle.node_program.specs.declared.texts.TheConstants.{SHARE, POST, SHOW, INBOX, BODY, TREE}
 use Rattle.node_program.specs.declared.texts.TheConstants.{AUDIT, SAY, AGREE, COMPACT, MAILBOX}
 use Rattle.node_program.specs.declared.texts.TheConstants.{MAILBOX_IN, MAILBOX_OUT, SYNC, RECORDS}
-use Rattle.node_program.specs.declared.texts.TheConstants.{QUIT, SERVE, TRY}
+use Rattle.node_program.specs.declared.texts.TheConstants.{QUIT, SERVE, TRY, WATCH}
 
 -- what the program tells of a topic
 abbrev pub text_of : Topic → List ℕ
@@ -43,6 +43,7 @@ text_of topic.MailboxIn = MAILBOX_IN.now
 text_of topic.MailboxOut = MAILBOX_OUT.now
 text_of topic.Sync = SYNC.now
 text_of topic.Serve = SERVE.now
+text_of topic.Watch = WATCH.now
 text_of topic.Quit = QUIT.now
 text_of topic.Records = RECORDS.now
 text_of topic.Try = TRY.now
@@ -67,6 +68,7 @@ topic_in name =
     else if bytes_eq name (codes "mailbox") then Some topic.Mailbox
     else if bytes_eq name (codes "sync") then Some topic.Sync
     else if bytes_eq name (codes "serve") then Some topic.Serve
+    else if bytes_eq name (codes "watch") then Some topic.Watch
     else if bytes_eq name (codes "quit") then Some topic.Quit
     else if bytes_eq name (codes "records") then Some topic.Records
     else if bytes_eq name (codes "try") then Some topic.Try

@@ -53,6 +53,8 @@ pub enum Topic {
     Sync,
     /// `serve`.
     Serve,
+    /// `watch`.
+    Watch,
     /// `quit`.
     Quit,
     /// `records`.
@@ -87,6 +89,7 @@ impl Topic {
             Topic::MailboxOut => texts::MAILBOX_OUT,
             Topic::Sync => texts::SYNC,
             Topic::Serve => texts::SERVE,
+            Topic::Watch => texts::WATCH,
             Topic::Quit => texts::QUIT,
             Topic::Records => texts::RECORDS,
             Topic::Try => texts::TRY,
@@ -163,6 +166,7 @@ fn topic_named(name: &str) -> Option<Topic>
         "mailbox" => Some(Topic::Mailbox),
         "sync" => Some(Topic::Sync),
         "serve" => Some(Topic::Serve),
+        "watch" => Some(Topic::Watch),
         "quit" => Some(Topic::Quit),
         "records" => Some(Topic::Records),
         "try" => Some(Topic::Try),

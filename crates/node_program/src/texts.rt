@@ -20,7 +20,8 @@ pub const OVERVIEW: &str = "bsp - keep groups of messages and exchange them with
   bsp mailbox in CONTACT <FILE
   bsp mailbox out CONTACT LATENCY COUNT >FILE
   bsp sync TURNS QUIET CONTACT MODE LATENCY SPEC [CONTACT MODE LATENCY SPEC ...]
-  bsp serve std <REQUESTS >ANSWERS
+  bsp serve WAY
+  bsp watch FROM
   bsp quit
   bsp records <STREAM
   bsp try NAME DESCRIPTOR <STREAM
@@ -182,26 +183,36 @@ output how it ended.
 ";
 
 /// What `serve` does.
-pub const SERVE: &str = "bsp serve std <REQUESTS >ANSWERS
+pub const SERVE: &str = "bsp serve WAY
 
-Holds the store and answers requests, for a program that asks often: the store
-is loaded once. Prints `node 1` when it is ready, and then answers the
-requests of the standard input on the standard output, in their order, until
-the input ends or `quit` was asked for. A request is a line with two numbers,
-how many bytes its words and its input have, then the words, a zero byte
-behind each, and the input. An answer is a line with three numbers, the status
-and how many bytes the output and the error output get, and then these. A
-request does and prints what the command of the same words does, over the
-store as it stands. While an answer is being written nothing is read: ask for
-one thing at a time, or read the answers in a thread. What is no request is
-answered with status 1, and the node ends.
+Holds the store for as long as it runs, and does what other commands in its
+folder ask for, which find it by themselves. It runs no sessions; it ends when
+`quit` is asked. WAY is `socket` or `std`; with `std` it also answers requests
+of the standard input on the standard output, in their order, and ends with
+the input. It prints `node 1` there when it is ready. A request is a line with
+two numbers, how many bytes its words and its input have, then the words, a
+zero byte behind each, and the input. An answer is a line with three numbers,
+the status and how many bytes the output and the error output get, and then
+these. A request does and prints what the command of the same words does, over
+the store as it stands. While an answer to a request of the standard input is
+being written nothing is read there: ask for one thing at a time, or read the
+answers in a thread. What is no request is answered with status 1, and the
+node ends.
+";
+
+/// What `watch` does.
+pub const WATCH: &str = "bsp watch FROM
+
+Asked of a node that serves: prints the lines of `inbox` from the place FROM
+on, counted from 0, and then each further one as soon as its message is
+delivered, until the node ends. Without such a node the command is refused.
 ";
 
 /// What `quit` does.
 pub const QUIT: &str = "bsp quit
 
 Asked of a node that serves: ends it, once all that was asked before is
-answered. By itself there is no such node, so the command is refused.
+answered. Without such a node the command is refused.
 ";
 
 /// What `records` does.

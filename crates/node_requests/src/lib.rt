@@ -2,10 +2,11 @@
 //! loaded.
 //!
 //! - `requests`: the command, with an input and an output of its own; `definitions`: what its words
-//!   describe.
+//!   describe; `listings`: what it lists, of which the text stands once.
 #![tactic(auto)]
 
 mod definitions;
+mod listings;
 mod requests;
 
 pub use requests::obey;

@@ -3,19 +3,21 @@ ghost use Rattle.std.specs.Prelude.{◌≡◌, true};
 ghost use Rattle.commands.specs.Reading.{IsCommandWithin};
 ghost use Rattle.store_commands.specs.Serving.{IsServed, ServesOn};
 ghost use Rattle.sync_words.specs.Outcomes.{came_to};
+ghost use Rattle.node_service.specs.Outputs.{output_told};
 ghost use Rattle.node_requests.specs.Requests.{DoesRequest, is_done_by_node};
 
 use crate::definitions::{add_named, say_named};
+use crate::listings::put_listing;
 use audit_commands::print_audit_loaded;
 use commands::Command;
 use mailbox_commands::{Sending, send_mail_loaded, take_mail_loaded};
-use outside::{Host, Sink, Source};
+use node_service::Output;
+use outside::{Host, Source};
 use sharing_commands::agree_loaded;
 use status_commands::print_status_loaded;
 use std::alloc::Global;
 use store_commands::{
-    Listing, add_contact_loaded, compact_loaded, list_loaded, post_loaded, set_level_loaded,
-    write_body_loaded,
+    Listing, add_contact_loaded, compact_loaded, post_loaded, set_level_loaded, write_body_loaded,
 };
 use sync_rules::Clients;
 use sync_store::Store;
@@ -26,20 +28,20 @@ use tree_commands::{Window, print_tree_loaded};
 /// stand: `init` finds the store. The words of `try` and `records` use no store, a run of sessions and
 /// another node would want it for themselves, and `quit` ends the node: they are not done here. After
 /// each outcome but `DiskFault` the store may be used again; after `Memory` it is to be settled first.
-pub fn obey<H: Host, S: Source, W: Sink, C: Clients>(
+pub fn obey<H: Host, S: Source, C: Clients>(
     alloc: Global,
     store: &mut Store,
     asked: Command,
     host: &mut H,
     input: &mut S,
-    out: &mut W,
+    out: &mut Output,
     clients: &C,
 ) -> Result<(), Outcome>
     requires within { IsCommandWithin asked }
     requires done { is_done_by_node asked ≡ true }
     requires served { IsServed (C.meaning clients.now) store.old (H.tells host.old) }
     ensures does { DoesRequest (C.meaning clients.now) asked (H.tells host.old) (H.tells host.new)
-        (S.tells input.old) (S.tells input.new) (W.tells out.old) (W.tells out.new)
+        (S.tells input.old) (S.tells input.new) (output_told out.old) (output_told out.new)
         (came_to result) }
     ensures serves { ServesOn (C.meaning clients.now) store.new (H.tells host.new)
         (came_to result) }
@@ -57,10 +59,10 @@ pub fn obey<H: Host, S: Source, W: Sink, C: Clients>(
         Command::Post(group, timestamp) => {
             post_loaded(alloc, store, group, timestamp, host, input, out, clients)
         }
-        Command::Show => list_loaded(alloc, store, Listing::Store, host, out),
-        Command::Inbox => list_loaded(alloc, store, Listing::Inbox, host, out),
+        Command::Show => put_listing(alloc, store, Listing::Store, host, out),
+        Command::Inbox => put_listing(alloc, store, Listing::Inbox, host, out),
         Command::InboxFrom(from, count) => {
-            list_loaded(alloc, store, Listing::InboxFrom(from, count), host, out)
+            put_listing(alloc, store, Listing::InboxFrom(from, count), host, out)
         }
         Command::Body(id) => write_body_loaded(store, &id, host, out),
         Command::Tree(group, from, count) => {

@@ -2,3 +2,4 @@ pub mod Words
 pub mod Ears
 pub mod Lives
 pub mod Serving
+pub mod Outputs

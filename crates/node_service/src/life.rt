@@ -12,7 +12,8 @@ ghost use Rattle.sync_words.specs.declared.outcome.Outcome.{Outcome};
 
 use crate::ear::{Came, Ear};
 use crate::node::{Node, Reply};
-use outside::{Failed, Host, MemSink, Sink, Source, write_all, write_text};
+use crate::output::Output;
+use outside::{Failed, Host, Sink, Source, write_all, write_text};
 use request_frames::{Ending, answer_line};
 use std::alloc::Global;
 use sync_words::Outcome;
@@ -82,16 +83,16 @@ fn answer_next<N: Node<H>, H: Host, W: Sink>(
     };
     let words = ear.reader.words();
     let kept = ear.reader.kept();
-    let mut sink = MemSink::new(alloc, Vec::new(alloc));
-    let reply = node.answer(words, size, most, kept, host, &mut sink);
-    match tell(&reply.came, shown_of(reply.shown, &sink), out) {
+    let mut printed = Output::new(alloc);
+    let reply = node.answer(words, size, most, kept, host, &mut printed);
+    match tell(&reply.came, shown_of(reply.shown, &printed), out) {
         Ok(()) => ended(reply),
         Err(_) => Err(Stop::Untold),
     }
 }
 
 // What goes out of what was written to an output.
-fn shown_of(shown: bool, out: &MemSink) -> &[u8]
+fn shown_of(shown: bool, out: &Output) -> &[u8]
     ensures { result.now ≡ shown_bytes shown out.now.bytes }
 {
     if shown { out.bytes() } else { &[] }

@@ -6,7 +6,8 @@ ghost use Rattle.request_frames.specs.declared.reader.Stage.TheVariants as stage
 ghost use Rattle.node_service.specs.Lives.{shown_bytes};
 ghost use Rattle.sync_words.specs.declared.outcome.Outcome.{Outcome};
 
-use outside::{Host, MemSink};
+use crate::output::Output;
+use outside::Host;
 use request_frames::InputSize;
 use sync_words::Outcome;
 
@@ -40,7 +41,7 @@ pub trait Node<H: Host> {
         most: usize,
         kept: &[u8],
         host: &mut H,
-        out: &mut MemSink,
+        out: &mut Output,
     ) -> Reply
         requires may { may self.old host.old }
         requires empty { out.old.bytes ≡ [] }

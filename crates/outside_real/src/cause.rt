@@ -10,6 +10,8 @@ pub enum Cause {
     Held,
     /// What stands in the place of a file is no regular file with one name.
     NoFile,
+    /// What stands at the name of a node's socket is no socket of this user, or somebody answers there.
+    NoSocket,
     /// A file would grow past the limit that the system sets to this process.
     Limit,
     /// The device, or what this user may have of it, is full.
@@ -47,6 +49,7 @@ impl Cause {
         match self {
             Cause::Held => "cause: another process has the store\n",
             Cause::NoFile => "cause: bsp.0 or bsp.1 is no regular file with one name\n",
+            Cause::NoSocket => "cause: bsp.sock is in the way\n",
             Cause::Limit => "cause: a file may not grow so long\n",
             Cause::NoRoom => "cause: the disk is full\n",
             Cause::ReadOnly => "cause: the file system is read-only\n",
@@ -58,6 +61,7 @@ impl Cause {
 }
 
 /// Why the files of a store can't be had.
+#[derive(Debug, Drop)]
 pub enum Unmet {
     /// Memory is wanting.
     Memory,

@@ -67,6 +67,25 @@ impl<R: Read + Drop> EarlySource<R> {
         Ok(())
     }
 
+    /// What was read early, piece by piece, where nothing of it was taken yet.
+    pub fn early(&self) -> &[Vec<u8>] {
+        self.pieces.as_slice()
+    }
+
+    /// How many bytes were read early.
+    pub fn early_len(&self) -> usize {
+        let mut len: usize = 0;
+        for piece in self.pieces.as_slice() {
+            len = len.saturating_add(piece.len());
+        }
+        len
+    }
+
+    /// Whether a read failed behind what was read early.
+    pub fn has_failed(&self) -> bool {
+        self.rest == Rest::Failure
+    }
+
     // Takes bytes of those that were read early, into the front of `buf`, and says how many; none
     // where all were taken.
     fn take_early(&mut self, buf: &mut [u8]) -> Option<usize>

@@ -8,7 +8,7 @@ ghost use Rattle.outside.specs.Faults.{HasCause};
 use crate::cause::{Cause, Unmet};
 use crate::copying::copy_both;
 use crate::link::Link;
-use crate::lock::{Lock, lock_to_read, lock_to_stay, lock_to_write};
+use crate::lock::{Lock, Turn, wait_for_turn};
 use crate::need::Need;
 use crate::random::random_bytes;
 use crate::real_file::sync_above;
@@ -118,30 +118,38 @@ impl<R: Runtime + Files<File = File> + AllocGlobal + Net> FileHost<R> {
         ensures reads { writes need ≡ false
             → IfOk result (λ h. IsUnwritten h.first.may_write h.second.may_write) }
     {
+        let turn = wait_for_turn(&rt, rt.alloc(), folder, need);
+        FileHost::had(rt, folder, need, turn)
+    }
+
+    /// As `with`, once its turn came or the files can't be had.
+    pub fn had(
+        rt: R,
+        folder: &str,
+        need: Need,
+        turn: Result<Turn, Unmet>,
+    ) -> Result<FileHost<R>, AllocError>
+        ensures no_links { IfOk result (λ h. vec_len h.links ≡ 0) }
+        ensures reads { writes need ≡ false
+            → IfOk result (λ h. IsUnwritten h.first.may_write h.second.may_write) }
+    {
         match need {
             Need::Nothing => FileHost::shut(rt, folder),
-            Need::Read => FileHost::reading(rt, folder),
-            Need::Write => {
-                let lock = lock_to_write(&rt, rt.alloc(), folder, false);
-                FileHost::locked(rt, folder, lock)
-            }
+            Need::Read => FileHost::reading(rt, folder, turn),
+            Need::Write | Need::Stay => FileHost::locked(rt, folder, turn),
             Need::Make => {
-                let lock = lock_to_make(&rt, rt.alloc(), folder);
-                FileHost::locked(rt, folder, lock)
-            }
-            Need::Stay => {
-                let lock = lock_to_stay(&rt, rt.alloc(), folder);
-                FileHost::locked(rt, folder, lock)
+                let turn = made(&rt, rt.alloc(), folder, turn);
+                FileHost::locked(rt, folder, turn)
             }
         }
     }
 
-    // Over copies of the files, for which others that will be done at once are waited for.
-    fn reading(rt: R, folder: &str) -> Result<FileHost<R>, AllocError>
+    // Over copies of the files, for which others that will be done at once were waited for.
+    fn reading(rt: R, folder: &str, turn: Result<Turn, Unmet>) -> Result<FileHost<R>, AllocError>
         ensures no_links { IfOk result (λ h. vec_len h.links ≡ 0) }
         ensures reads { IfOk result (λ h. IsUnwritten h.first.may_write h.second.may_write) }
     {
-        match copied(&rt, rt.alloc(), folder) {
+        match copied(&rt, rt.alloc(), folder, turn) {
             Ok((first, second)) => FileHost::over_copies(rt, folder, first, second),
             Err(Unmet::Memory) => Err(AllocError),
             Err(Unmet::Cause(cause)) => FileHost::shut_for(rt, folder, Some(cause)),
@@ -165,13 +173,16 @@ impl<R: Runtime + Files<File = File> + AllocGlobal + Net> FileHost<R> {
     }
 
     // Over the files themselves, for as long as the lock is held; over none without it.
-    fn locked(rt: R, folder: &str, lock: Result<Lock, Unmet>) -> Result<FileHost<R>, AllocError>
+    fn locked(rt: R, folder: &str, turn: Result<Turn, Unmet>) -> Result<FileHost<R>, AllocError>
         ensures no_links { IfOk result (λ h. vec_len h.links ≡ 0) }
     {
-        match lock {
-            Ok(lock) => {
-                let lock = Rc::new(rt.alloc(), lock)?;
-                FileHost::held(rt, folder, Some(lock))
+        match turn {
+            Ok(turn) => {
+                let lock = match turn.into_lock() {
+                    Some(lock) => Some(Rc::new(rt.alloc(), lock)?),
+                    None => None,
+                };
+                FileHost::held(rt, folder, lock)
             }
             Err(Unmet::Memory) => Err(AllocError),
             Err(Unmet::Cause(cause)) => FileHost::shut_for(rt, folder, Some(cause)),
@@ -184,23 +195,30 @@ fn copied<R: Files<File = File> + Clock>(
     rt: &R,
     alloc: Global,
     folder: &str,
+    turn: Result<Turn, Unmet>,
 ) -> Result<(Vec<u8>, Vec<u8>), Unmet> {
-    let _lock = lock_to_read(rt, folder)?;
+    let _turn = turn?;
     Ok(copy_both(rt, alloc, folder)?)
 }
 
-// As `lock_to_write`, in a folder that may be new.
-fn lock_to_make<R: Files<File = File> + Clock>(
+// The turn, in a folder that may be new.
+fn made<R: Files<File = File> + Clock>(
     rt: &R,
     alloc: Global,
     folder: &str,
-) -> Result<Lock, Unmet> {
-    let lock = lock_to_write(rt, alloc, folder, true)?;
+    turn: Result<Turn, Unmet>,
+) -> Result<Turn, Unmet> {
+    let turn = turn?;
     sync_above(rt, alloc, folder)?;
-    Ok(lock)
+    Ok(turn)
 }
 
 impl<R: Runtime + Net> FileHost<R> {
+    /// What the host runs on.
+    pub fn runtime(&self) -> &R {
+        &self.rt
+    }
+
     /// Why the first call on a file that failed did; none where none did.
     pub fn cause(&self) -> Option<Cause> {
         self.cause

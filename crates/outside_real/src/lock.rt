@@ -6,6 +6,7 @@
 //! reads has a shared lock on the folder. All are those of `flock`, which the system releases when a
 //! process ends.
 use crate::cause::{Cause, Unmet};
+use crate::need::Need;
 use crate::opening::{is_there, open, open_to_lock, open_to_write};
 use std::alloc::Global;
 use std::cell::Cell;
@@ -101,68 +102,140 @@ impl Lock {
     }
 }
 
-/// Waits until nobody reads or writes the files of a folder, and keeps others from it. Where one
-/// stays there for ten seconds more the cause is that. The first file is made where that is asked
-/// and it is not there, so that two who make a store by two folders meet.
-pub fn lock_to_write<R: Files<File = File> + Clock>(
+/// Who waits for the files of a folder. It looks again and again whether it may have them as it needs
+/// them, and may do something else between.
+#[derive(Drop)]
+pub struct Turn {
+    need: Need,
+    lock: Option<Lock>,
+    is_locked: bool,
+    looks: u32,
+}
+
+impl Turn {
+    /// Before the first look. Who needs nothing touches nothing.
+    pub fn new<R: Files<File = File>>(files: &R, folder: &str, need: Need) -> Result<Turn, Unmet> {
+        let lock = if need == Need::Nothing {
+            None
+        } else {
+            Some(unlocked(files, folder)?)
+        };
+        Ok(Turn {
+            need,
+            lock,
+            is_locked: false,
+            looks: 0,
+        })
+    }
+
+    /// Looks once whether the files may be had: to write, whether nobody else reads or writes them;
+    /// to read, whether nobody writes them but one that stays. Where one stays there for ten seconds
+    /// of pauses the cause is that; behind one that will be done at once, who reads goes on after so
+    /// long. Once they are had it is not asked any more.
+    pub fn look<R: Files<File = File>>(
+        &mut self,
+        files: &R,
+        alloc: Global,
+        folder: &str,
+    ) -> Result<bool, Unmet> {
+        let Some(mut lock) = self.lock.take() else {
+            return Ok(true);
+        };
+        let answer = match self.need {
+            Need::Nothing => Ok(true),
+            Need::Read => self.look_shared(&lock),
+            Need::Write => self.look_alone(&mut lock, files, alloc, folder, false),
+            Need::Make => self.look_alone(&mut lock, files, alloc, folder, true),
+            Need::Stay => self.look_to_stay(&mut lock, files, alloc, folder),
+        };
+        self.lock = Some(lock);
+        answer
+    }
+
+    // Whether the folder is shared, or was waited for long enough.
+    fn look_shared(&mut self, lock: &Lock) -> Result<bool, Unmet> {
+        let is_over = self.has_waited();
+        Ok(is_taken(lock.folder.try_lock_shared())? || is_over)
+    }
+
+    // Whether the folder and its files are locked to write.
+    fn look_alone<R: Files<File = File>>(
+        &mut self,
+        lock: &mut Lock,
+        files: &R,
+        alloc: Global,
+        folder: &str,
+        make: bool,
+    ) -> Result<bool, Unmet> {
+        match lock.take(files, alloc, folder, make)? {
+            Holder::Nobody => Ok(true),
+            Holder::Short => Ok(false),
+            Holder::Long if self.has_waited() => Err(Unmet::Cause(Cause::Held)),
+            Holder::Long => Ok(false),
+        }
+    }
+
+    // As `look_alone`, for one that stays: who reads goes on beside it.
+    fn look_to_stay<R: Files<File = File>>(
+        &mut self,
+        lock: &mut Lock,
+        files: &R,
+        alloc: Global,
+        folder: &str,
+    ) -> Result<bool, Unmet> {
+        if !self.is_locked {
+            self.is_locked = self.look_alone(lock, files, alloc, folder, false)?;
+            if !self.is_locked {
+                return Ok(false);
+            }
+            self.looks = 0;
+        }
+        if lock.first.is_none() && lock.second.is_none() {
+            return Ok(true);
+        }
+        // The folder is given up before it is shared. Who gets it between finds the files taken.
+        if is_taken(lock.folder.try_lock_shared())? {
+            return Ok(true);
+        }
+        if self.has_waited() {
+            return Err(Unmet::Cause(Cause::Held));
+        }
+        Ok(false)
+    }
+
+    // Whether it has looked often enough, this look with it.
+    fn has_waited(&mut self) -> bool {
+        let has = self.looks >= MOST_LOOKS;
+        self.looks = self.looks.saturating_add(1);
+        has
+    }
+
+    /// The locks that were had; none of who needs nothing.
+    pub fn into_lock(self) -> Option<Lock> {
+        let Turn { lock, .. } = self;
+        lock
+    }
+}
+
+/// Looks and sleeps until the files of a folder are had as they are needed, or can't be.
+pub fn wait_for_turn<R: Files<File = File> + Clock>(
     rt: &R,
     alloc: Global,
     folder: &str,
-    make: bool,
-) -> Result<Lock, Unmet> {
-    let mut lock = unlocked(rt, folder)?;
-    let mut looks = 0;
+    need: Need,
+) -> Result<Turn, Unmet> {
+    let mut turn = Turn::new(rt, folder, need)?;
     for _ in 0..u64::MAX {
-        match lock.take(rt, alloc, folder, make)? {
-            Holder::Nobody => return Ok(lock),
-            Holder::Short => {}
-            Holder::Long if looks >= MOST_LOOKS => break,
-            Holder::Long => looks += 1,
+        if turn.look(rt, alloc, folder)? {
+            return Ok(turn);
         }
         pause(rt);
     }
     Err(Unmet::Cause(Cause::Held))
 }
 
-/// As `lock_to_write`, for one that stays: who reads goes on beside it.
-pub fn lock_to_stay<R: Files<File = File> + Clock>(
-    rt: &R,
-    alloc: Global,
-    folder: &str,
-) -> Result<Lock, Unmet> {
-    let lock = lock_to_write(rt, alloc, folder, false)?;
-    if lock.first.is_none() && lock.second.is_none() {
-        return Ok(lock);
-    }
-    // The folder is given up before it is shared. Who gets it between finds the files taken.
-    if is_shared_in_time(rt, &lock.folder)? {
-        Ok(lock)
-    } else {
-        Err(Unmet::Cause(Cause::Held))
-    }
-}
-
-/// Waits until nobody writes the files of a folder but one that stays, and keeps others from it
-/// that will be done at once; behind one that is not, it goes on after ten seconds.
-pub fn lock_to_read<R: Files<File = File> + Clock>(rt: &R, folder: &str) -> io::Result<Lock> {
-    let lock = unlocked(rt, folder)?;
-    is_shared_in_time(rt, &lock.folder)?;
-    Ok(lock)
-}
-
-// Whether a file was shared within ten seconds.
-fn is_shared_in_time<R: Clock>(clock: &R, file: &File) -> io::Result<bool> {
-    for _ in 0..MOST_LOOKS {
-        if is_taken(file.try_lock_shared())? {
-            return Ok(true);
-        }
-        pause(clock);
-    }
-    Ok(false)
-}
-
 /// Sleeps before one looks again.
-pub(crate) fn pause<R: Clock>(clock: &R) {
+pub fn pause<R: Clock>(clock: &R) {
     thread::sleep(clock, Duration::from_millis(PAUSE_MILLISECONDS));
 }
 

@@ -269,7 +269,8 @@ module _ (what : Times) where
     untimely_past : (n : ℕ) → length rows ≤ n → is_timely what bound (kept_in rows n) ≡ false
     untimely_past n h = ap (is_due bound) (ap (time_place what) (get_or_past rows n no_kept h) ∙ none_place what)
 
-    untimely : (first count : ℕ) → is_due bound (least_from what rows first count) ≡ false → IsUntimely what bound rows first (first + count)
+    -- where the least number of some rows is not due, no row of them is
+    pub untimely : (first count : ℕ) → is_due bound (least_from what rows first count) ≡ false → IsUntimely what bound rows first (first + count)
     unfolding least_from
     untimely first zero h n low high = absurd (omega arith)
     untimely first (suc count) h n low high =

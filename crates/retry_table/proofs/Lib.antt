@@ -5,3 +5,4 @@ pub mod SoonerQueues
 pub mod Listing
 pub mod Said
 pub mod WantedIds
+pub mod Expiries

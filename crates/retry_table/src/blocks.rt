@@ -45,10 +45,24 @@ fn is_later(new: Option<u64>, old: Option<u64>) -> bool
     }
 }
 
-/// Whether a row's number is there, and at most the bound.
+/// Whether a row's expiry lets its number be at most the bound.
+fn may_be_timely(times: Times, row: KeptRow, bound: u64) -> bool
+    ensures { result ≡ false → is_timely times bound row ≡ false }
+{
+    match times {
+        Times::ToSend => row.expiry() <= bound,
+        Times::ToOffer => row.expiry() <= bound,
+        Times::Sooner(_) => u64::MAX - row.expiry() <= bound,
+    }
+}
+
+/// Whether a row's number is there, and at most the bound. Of most rows the expiry alone tells.
 fn is_timely(times: Times, row: KeptRow, bound: u64) -> bool
     ensures { result ≡ is_timely times bound row }
 {
+    if !may_be_timely(times, row, bound) {
+        return false;
+    }
     is_due(place_of(times, row), bound)
 }
 
@@ -117,6 +131,28 @@ fn next_in_block(rows: &[KeptRow], times: Times, from: usize, bound: u64) -> Opt
     None
 }
 
+/// The first row of `from`'s block, from `from` on, whose number is at most the bound: no row is
+/// looked at where the least number of the block is greater.
+fn next_here(
+    tree: &DueTree,
+    times: Times,
+    rows: &[KeptRow],
+    from: usize,
+    bound: u64,
+) -> Option<usize>
+    requires least { AreLeast times rows.now tree.now }
+    requires within { from < length rows.now }
+    ensures low { IfSome result (λ n. from ≤ n) }
+    ensures timely { IfSome result (λ n. is_timely times bound (kept_in rows.now n) ≡ true) }
+    ensures before { IfSome result (IsUntimely times bound rows.now from) }
+    ensures none { IfNone result (IsUntimely times bound rows.now from (64 * (from / 64) + 64)) }
+{
+    if !is_due(tree.get(from / BLOCK), bound) {
+        return None;
+    }
+    next_in_block(rows, times, from, bound)
+}
+
 /// The first row from `from` on whose number is at most the bound.
 pub(crate) fn next_at_most(
     tree: &DueTree,
@@ -131,7 +167,7 @@ pub(crate) fn next_at_most(
     if from >= rows.len() {
         return None;
     }
-    if let Some(n) = next_in_block(rows, times, from, bound) {
+    if let Some(n) = next_here(tree, times, rows, from, bound) {
         return Some(n);
     }
     let block = tree.next_at_most(from / BLOCK + 1, bound)?;

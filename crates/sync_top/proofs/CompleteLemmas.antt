@@ -60,7 +60,7 @@ use Rattle.stream_commands.specs.declared.input.TheConstants.{MAX_INPUT}
 use Rattle.sync_top.specs.Complete.{BytesDecide, ComesOut, Complete, NothingFails, ServesCommand}
 use Rattle.sync_top.specs.Complete.{StreamDecides}
 use Rattle.node_requests.specs.Requests.{sending_of}
-use Rattle.sync_top.specs.Duties.{duty_of, to_send, to_take}
+use Rattle.sync_top.specs.Duties.{MaySendMail, MayTakeMail, comes_of, serves_of}
 use Rattle.stream_commands.specs.Streams.{ReadsStream, ReadsWhole}
 use Rattle.sync_top.specs.Run.{WordsComeTo, ReportsOutcome}
 use Rattle.stream_commands.specs.Streams.{Streams, TriesClient, outcome_of}
@@ -295,7 +295,7 @@ module _ (clients : Meaning) (old new : Outside) (input input' out out' : Stream
 
   agreed_done : (contact : ℕ) (group : Id) (came : Outcome)
       → HasAgreed clients contact group old new out out' came
-      → (duty_of clients (command.Agree contact group)).serves old new input input' → Done came
+      → serves_of clients (command.Agree contact group) old new input input' → Done came
   agreed_done contact group came did may =
       worked_done (λ f. agree_test f contact group)
       (λ f. running clients (agreement clients contact group)) may.before may.stood
@@ -303,7 +303,7 @@ module _ (clients : Meaning) (old new : Outside) (input input' out out' : Stream
       two' may.before may.room may.next may.stood.1 full) may.tested came did
 
   mailed_done : (asked : Sending) (came : Outcome) → HasSentMail clients asked old new out out' came
-      → (to_send clients asked).serves old new input input' → Done came
+      → MaySendMail clients asked old new → Done came
   mailed_done asked came (inl did) may =
       unread_done (λ f. mailbox_test f asked.contact) came may.before did may.stood may.tested
   mailed_done asked came (inr did) may =
@@ -350,7 +350,7 @@ module _ (clients : Meaning) (old new : Outside) (input input' out out' : Stream
 
   taken_done : (contact : ℕ) (came : Outcome)
       → HasTakenMail clients contact old new input input' out out' came
-      → (to_take clients contact).serves old new input input' → Decided came
+      → MayTakeMail clients contact input input' old.files → Decided came
   taken_done contact came (inl did) may =
       elim (stopped_done (λ f. mailbox_test f contact)
       (InputStops (IsTooMuch input input') input input') came may.before did may.stood may.tested
@@ -433,8 +433,8 @@ module _ (clients : Meaning) (old new : Outside) (input input' out out' : Stream
 
   -- by the command
   duty_comes_out : (asked : Command) (came : Outcome)
-      → (duty_of clients asked).comes old new input input' out out' came
-      → (duty_of clients asked).serves old new input input'
+      → comes_of clients asked old new input input' out out' came
+      → serves_of clients asked old new input input'
       → ComesOut clients asked old new input input' (status_of came)
       ⊎ (status_of came ≡ status.Memory)
   duty_comes_out command.Init came did serves =
@@ -465,7 +465,7 @@ module _ (clients : Meaning) (old new : Outside) (input input' out out' : Stream
   duty_comes_out (command.Sync turns quiet links) came did serves =
       run_comes_out clients (record { turns = turns; quiet = quiet }) links old new fails.disk
       fails.links came did.0 serves
-  duty_comes_out _ came did serves = absurd did.0
+  duty_comes_out _ came did serves = absurd did
 
 -- ---- all commands
 

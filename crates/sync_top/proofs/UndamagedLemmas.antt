@@ -36,7 +36,7 @@ use Rattle.mailbox_commands.specs.Taking.{HasTakenMail}
 use Rattle.sync_store.specs.Moments.{JournalMoment}
 use Rattle.sync_node.specs.Output.{heard_on}
 use Rattle.node_requests.specs.Requests.{sending_of}
-use Rattle.sync_top.specs.Duties.{duty_of}
+use Rattle.sync_top.specs.Duties.{comes_of}
 use Rattle.sync_top.proofs.ServeLemmas.{opens_undamaged}
 use Rattle.sync_top.specs.Sound.{LifeOpens}
 use Rattle.sync_top.specs.Run.{AsksServe, AsksSync, WordsComeTo, ComesOfStore, Covered, KeepsHost}
@@ -176,7 +176,7 @@ module _ (clients : Meaning) (old new : Outside) where
   -- by the command; that of a run is told of apart
   of_duty : (asked : Command) (input input' out out' : Stream) (came : Outcome)
       → (AsksSync (Do asked) → ⊥)
-      → (duty_of clients asked).comes old new input input' out out' came → Undamaged clients old new
+      → comes_of clients asked old new input input' out out' came → Undamaged clients old new
   of_duty command.Init input input' out out' came other did = of_begun out out' came did.0
   of_duty command.Contact input input' out out' came other did = of_worked _ _ out out' came did.0
   of_duty (command.Group name major descriptor) input input' out out' came other did =
@@ -204,7 +204,7 @@ module _ (clients : Meaning) (old new : Outside) where
   of_duty (command.MailboxOut contact latency count) input input' out out' came other did =
       of_mailed (sending_of contact latency count) out out' came did.0
   of_duty (command.Sync turns quiet links) input input' out out' came other did = absurd (other tt)
-  of_duty _ input input' out out' came other did = absurd did.0
+  of_duty _ input input' out out' came other did = absurd did
 
 -- ---- all commands
 
@@ -234,6 +234,6 @@ module _ {H : Type 0} (tells : H → Outside) (clients : Meaning) (h h' : H)
       of_run clients (tells h) (tells h') links covered (told tt)
   undamaged (Do asked) comes keeps covered opens told =
       of_store clients (tells h) (tells h')
-      ((duty_of clients asked).comes (tells h) (tells h') input input' out out') input input' out
+      (comes_of clients asked (tells h) (tells h') input input' out out') input input' out
       out' came
       (of_duty clients (tells h) (tells h') asked input input' out out' came (λ sync. sync)) comes

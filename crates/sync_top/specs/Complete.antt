@@ -30,7 +30,7 @@ use Rattle.sync_run.specs.Courses.{RanToEnd}
 use Rattle.mailbox_core.specs.Files.{box_ending}
 use Rattle.mailbox_commands.specs.declared.taking.TheConstants.{MAX_MAIL}
 use Rattle.mailbox_commands.specs.Taking.{outcome_at}
-use Rattle.sync_top.specs.Duties.{duty_of}
+use Rattle.sync_top.specs.Duties.{serves_of}
 use Rattle.stream_commands.specs.Streams.{outcome_of}
 use Rattle.stream_commands.specs.declared.input.TheConstants.{MAX_INPUT}
 
@@ -50,7 +50,7 @@ ServesCommand clients (command.Try name descriptor) old new input input' =
     is_some (clients.kind_of name 0) ≡ true
 ServesCommand clients command.Records old new input input' = Unit {0}
 ServesCommand clients asked old new input input' =
-    (duty_of clients asked).serves old new input input'
+    serves_of clients asked old new input input'
 
 -- ---- what it then comes to
 

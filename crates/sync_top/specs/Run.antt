@@ -11,7 +11,7 @@ use Rattle.sync_words.specs.declared.outcome.Outcome.TheVariants as outcome
 use Rattle.sync_words.specs.Outcomes.{status_of, text_of}
 use Rattle.outside.specs.Streams.{Stream, GetsText}
 use Rattle.stream_commands.specs.Streams.{EndsAtOnce, Streams, TriesClient, UntouchedStreams}
-use Rattle.sync_top.specs.Duties.{duty_of}
+use Rattle.sync_top.specs.Duties.{comes_of}
 use Rattle.stream_commands.specs.RecordText.{items_text}
 use Rattle.commands.specs.Reading.{Asked}
 use Rattle.commands.specs.Reading.Asked.{Usage, Do}
@@ -45,7 +45,7 @@ WordsComeTo clients (Do command.Quit) old new input input' out out' came =
     EndsAtOnce outcome.NoNode input input' out out' came
 WordsComeTo clients (Do command.Serve) old new input input' out out' came = Unit {0}
 WordsComeTo clients (Do asked) old new input input' out out' came =
-    ComesOfStore ((duty_of clients asked).comes old new input input' out out') old new input input'
+    ComesOfStore (comes_of clients asked old new input input' out out') old new input input'
     out out' came
 
 -- the words ask for a run of sessions

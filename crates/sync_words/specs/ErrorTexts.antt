@@ -24,6 +24,10 @@ node_holds_text = codes "refused: a node holds the store\n"
 abbrev pub no_node_text : List ℕ
 no_node_text = codes "refused: no node serves\n"
 
+-- a node that did not answer whether it hears, so that nothing was asked of it
+abbrev pub node_busy_text : List ℕ
+node_busy_text = codes "refused: the node is busy\n"
+
 -- why a command is refused, in words
 abbrev pub refusal : Refused → List ℕ
 refusal refused.UnknownClient = codes "unknown client"
@@ -57,6 +61,7 @@ is_plain status.Full = true
 is_plain status.Memory = true
 is_plain status.WriteFault = true
 is_plain status.TooMuch = true
+is_plain status.NoAnswer = true
 is_plain _ = false
 
 abbrev pub plain_text : Status → List ℕ
@@ -68,6 +73,7 @@ plain_text status.Full = codes "full\n"
 plain_text status.Memory = codes "out of memory\n"
 plain_text status.WriteFault = codes "write fault\n"
 plain_text status.TooMuch = codes "input too long\n"
+plain_text status.NoAnswer = codes "no answer\n"
 plain_text _ = []
 
 -- why something is no record, in words

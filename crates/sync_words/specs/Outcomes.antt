@@ -5,7 +5,8 @@ use Rattle.sync_course.specs.declared.ends.LinkEnd.{LinkEnd}
 use Rattle.sync_course.specs.declared.ends.LinkEnd.TheVariants as end
 use Rattle.sync_words.specs.ErrorTexts.{bad_record_text, damaged_text, inside_text, link_text}
 use Rattle.sync_words.specs.ErrorTexts.{no_node_text, no_request_text, no_version_text}
-use Rattle.sync_words.specs.ErrorTexts.{node_holds_text, plain_text, refused_text, script_text}
+use Rattle.sync_words.specs.ErrorTexts.{node_busy_text, node_holds_text, plain_text, refused_text}
+use Rattle.sync_words.specs.ErrorTexts.{script_text}
 use Rattle.sync_words.specs.ErrorTexts.{usage_text}
 use Rattle.sync_words.specs.declared.outcome.Outcome.{Outcome}
 use Rattle.sync_words.specs.declared.outcome.Outcome.TheVariants as outcome
@@ -59,6 +60,7 @@ status_of outcome.Exists = status.Exists
 status_of (outcome.Refused why) = status.Refused
 status_of outcome.NodeHolds = status.Refused
 status_of outcome.NoNode = status.Refused
+status_of outcome.NodeBusy = status.Refused
 status_of (outcome.Damaged place) = status.Damaged
 status_of outcome.DiskFault = status.DiskFault
 status_of (outcome.Links ends) = links_status ends
@@ -72,6 +74,7 @@ status_of outcome.Memory = status.Memory
 status_of outcome.WriteFault = status.WriteFault
 status_of outcome.TooMuch = status.TooMuch
 status_of (outcome.BadScript line) = status.BadScript
+status_of outcome.NoAnswer = status.NoAnswer
 
 -- what the error output gets: a line, with its line feed; nothing where all was done, and a line
 -- for each link of a command that has links
@@ -81,6 +84,7 @@ text_of outcome.NoRequest = no_request_text
 text_of (outcome.Refused why) = refused_text why
 text_of outcome.NodeHolds = node_holds_text
 text_of outcome.NoNode = no_node_text
+text_of outcome.NodeBusy = node_busy_text
 text_of (outcome.Damaged place) = damaged_text place.file place.at
 text_of (outcome.Links ends) = links_text ends
 text_of (outcome.LinkFailed link) = link_text link false end.Failed

@@ -20,3 +20,4 @@ number_of status.Memory = 12
 number_of status.WriteFault = 13
 number_of status.TooMuch = 14
 number_of status.BadScript = 15
+number_of status.NoAnswer = 17

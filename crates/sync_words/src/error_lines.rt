@@ -7,8 +7,8 @@ ghost use Rattle.std.specs.String.{string_bytes};
 ghost use Rattle.arrayvec.specs.ArrayString.{array_string_len};
 ghost use Rattle.sync_words.specs.ErrorTexts.{bad_record_text, damaged_text, ending_text};
 ghost use Rattle.sync_words.specs.ErrorTexts.{inside_text, is_plain, link_text, no_node_text};
-ghost use Rattle.sync_words.specs.ErrorTexts.{no_request_text, no_version_text, node_holds_text};
-ghost use Rattle.sync_words.specs.ErrorTexts.{plain_text};
+ghost use Rattle.sync_words.specs.ErrorTexts.{no_request_text, no_version_text, node_busy_text};
+ghost use Rattle.sync_words.specs.ErrorTexts.{node_holds_text, plain_text};
 ghost use Rattle.sync_words.specs.ErrorTexts.{reason_text, refusal, refused_text, script_text};
 ghost use Rattle.sync_words.specs.ErrorTexts.{usage_text};
 ghost use Rattle.sync_words.specs.Texts.{AddsLine, AddsPart};
@@ -80,6 +80,14 @@ pub(crate) fn add_no_node(to: &mut ErrorText)
     ensures { AddsLine to.old to.new no_node_text }
 {
     to.push_str("refused: no node serves\n");
+}
+
+/// Adds the line of a node that did not say in time that it hears.
+pub(crate) fn add_node_busy(to: &mut ErrorText)
+    requires { array_string_len to.old ≤ 900 }
+    ensures { AddsLine to.old to.new node_busy_text }
+{
+    to.push_str("refused: the node is busy\n");
 }
 
 // Why a command is refused, in words.
@@ -158,6 +166,7 @@ fn plain(status: Status) -> &'static str
         Status::Memory => "out of memory\n",
         Status::WriteFault => "write fault\n",
         Status::TooMuch => "input too long\n",
+        Status::NoAnswer => "no answer\n",
         Status::Done
         | Status::Usage
         | Status::Refused

@@ -4,7 +4,7 @@ ghost use Rattle.sync_words.specs.Outcomes.{came_to, ends_text, status_of, text_
 
 use crate::error_lines::{
     ErrorText, add_bad_record, add_damaged, add_inside, add_link, add_no_node, add_no_request,
-    add_no_version, add_node_holds, add_plain, add_refused, add_script, add_usage,
+    add_no_version, add_node_busy, add_node_holds, add_plain, add_refused, add_script, add_usage,
 };
 use crate::links::LinkEnds;
 use crate::status::Status;
@@ -33,6 +33,8 @@ pub enum Outcome {
     NodeHolds,
     /// What only a node that serves can do was asked where none does.
     NoNode,
+    /// The node that serves was asked, and did not say in time that it hears.
+    NodeBusy,
     /// The files stand for no journal: this place of theirs is damaged.
     Damaged(Place),
     /// A call on the disk failed.
@@ -60,6 +62,8 @@ pub enum Outcome {
     TooMuch,
     /// The first bad line of a script, counted from 1.
     BadScript(u64),
+    /// The node that was asked went away before its answer: it was done or not.
+    NoAnswer,
 }
 
 impl From<AllocError> for Outcome {
@@ -104,7 +108,8 @@ impl Outcome {
             Outcome::Usage(_) | Outcome::NoRequest => Status::Usage,
             Outcome::NoStore => Status::NoStore,
             Outcome::Exists => Status::Exists,
-            Outcome::Refused(_) | Outcome::NodeHolds | Outcome::NoNode => Status::Refused,
+            Outcome::Refused(_) => Status::Refused,
+            Outcome::NodeHolds | Outcome::NoNode | Outcome::NodeBusy => Status::Refused,
             Outcome::Damaged(_) => Status::Damaged,
             Outcome::DiskFault => Status::DiskFault,
             Outcome::Links(ends) => ends.status(),
@@ -116,6 +121,7 @@ impl Outcome {
             Outcome::WriteFault => Status::WriteFault,
             Outcome::TooMuch => Status::TooMuch,
             Outcome::BadScript(_) => Status::BadScript,
+            Outcome::NoAnswer => Status::NoAnswer,
         }
     }
 
@@ -142,6 +148,7 @@ impl Outcome {
             Outcome::Refused(why) => add_refused(*why, to),
             Outcome::NodeHolds => add_node_holds(to),
             Outcome::NoNode => add_no_node(to),
+            Outcome::NodeBusy => add_node_busy(to),
             Outcome::Damaged(place) => add_damaged(place.file, place.at, to),
             Outcome::DiskFault => add_plain(Status::DiskFault, to),
             Outcome::Links(ends) => add_links(ends.is_over(), ends.as_slice(), to),
@@ -155,6 +162,7 @@ impl Outcome {
             Outcome::WriteFault => add_plain(Status::WriteFault, to),
             Outcome::TooMuch => add_plain(Status::TooMuch, to),
             Outcome::BadScript(line) => add_script(*line, to),
+            Outcome::NoAnswer => add_plain(Status::NoAnswer, to),
         }
     }
 }

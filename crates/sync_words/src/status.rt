@@ -40,6 +40,8 @@ pub enum Status {
     TooMuch,
     /// A script of several devices has a bad line.
     BadScript,
+    /// The node that was asked went away before its answer, so it was done or not.
+    NoAnswer,
 }
 
 impl Status {
@@ -71,6 +73,7 @@ impl Status {
             Status::WriteFault => 13,
             Status::TooMuch => 14,
             Status::BadScript => 15,
+            Status::NoAnswer => 17,
         }
     }
 }

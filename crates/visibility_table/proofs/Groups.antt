@@ -16,7 +16,7 @@ at_keys : (id : Id) (i : ℕ) (es : List (Id × GroupValue)) → position_from (
 at_keys id i [] = refl
 at_keys id i (e ∷ es) = λ j. cond (id_swap id e.0 j) (Some i) (at_keys id (i + 1) es j)
 
-position_is : {X : Type 0} (p : X → Bool) (xs : List X) → position p xs ≡ position_from p 0 xs
+pub position_is : {X : Type 0} (p : X → Bool) (xs : List X) → position p xs ≡ position_from p 0 xs
 position_is p [] = refl
 position_is p (x ∷ xs) = position_from-zero p (x ∷ xs)
 

@@ -9,6 +9,7 @@ ghost use Rattle.sync_rules.specs.Facts.{group_at, known_of, level_at, put_level
 ghost use Rattle.visibility_table.specs.Table.{after_entry, CanApply, empty_table, group_number};
 
 use indexmap::IndexMap;
+use same_bytes::same_bytes;
 use std::alloc::{AllocError, Global};
 use std::marker::Model;
 use sync_ids::{GroupDef, GroupId, group_id};
@@ -24,6 +25,7 @@ pub struct Levels {
     groups: IndexMap<GroupId, GroupDef>,
     levels: IndexMap<(u8, GroupId), Level>,
     room: usize,
+    recent: u32,
 }
 
 impl Model for Levels {
@@ -59,6 +61,7 @@ impl Levels {
             groups: IndexMap::new(alloc),
             levels: IndexMap::new(alloc),
             room: 0,
+            recent: 0,
         })
     }
 
@@ -168,8 +171,51 @@ impl Levels {
         ensures found { MatchOption result (group_at self.now.groups id.now ≡ None)
             (λ n. slice_get self.now.groups n ≡ group_at self.now.groups id.now) }
     {
+        match self.recent_group(id) {
+            Some(number) => Some(number),
+            None => self.sought_group(id),
+        }
+    }
+
+    /// The same, by the hash of the id.
+    fn sought_group(&self, id: &GroupId) -> Option<u32>
+        ensures number { result ≡ group_number self.now.groups id.now }
+        ensures within { IfSome result (λ n. n < length self.now.groups) }
+        ensures found { MatchOption result (group_at self.now.groups id.now ≡ None)
+            (λ n. slice_get self.now.groups n ≡ group_at self.now.groups id.now) }
+    {
         let number = self.groups.get_index_of(id)?;
         Some(number as u32)
+    }
+
+    /// The number of the group that was found last by `find_group`, if its id is this one.
+    fn recent_group(&self, id: &GroupId) -> Option<u32>
+        ensures number { IfSome result (λ n. Some n ≡ group_number self.now.groups id.now) }
+        ensures within { IfSome result (λ n. n < length self.now.groups) }
+        ensures found { IfSome result
+            (λ n. slice_get self.now.groups n ≡ group_at self.now.groups id.now) }
+    {
+        self.show_distinct();
+        let (known, _) = self.groups.get_index(self.recent as usize)?;
+        if same_bytes(known.as_bytes(), id.as_bytes()) {
+            Some(self.recent)
+        } else {
+            None
+        }
+    }
+
+    /// The number of the group of this id, as `group` gives it. Where the same is asked for next, it
+    /// is found by a comparison.
+    pub fn find_group(&mut self, id: &GroupId) -> Option<u32>
+        ensures same { self.new ≡ self.old }
+        ensures number { result ≡ group_number self.old.groups id.now }
+        ensures within { IfSome result (λ n. n < length self.old.groups) }
+        ensures found { MatchOption result (group_at self.old.groups id.now ≡ None)
+            (λ n. slice_get self.old.groups n ≡ group_at self.old.groups id.now) }
+    {
+        let number = self.group(id)?;
+        self.recent = number;
+        Some(number)
     }
 
     /// The definition of the group of this number, which is below the number of groups.

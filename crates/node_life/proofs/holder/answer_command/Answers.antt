@@ -1,4 +1,4 @@
-use Rattle.std.proofs.Common.{sym, ◌∙◌, subst, refl, inr, rules}
+use Rattle.std.proofs.Common.{sym, ◌∙◌, subst, inr, rules}
 use Rattle.request_frames.specs.declared.head.InputSize.{InputSize}
 use Rattle.node_life.specs.Inputs.{ReadsGiven, failing_told, given_told}
 use Rattle.commands.specs.Reading.Asked.{Do}
@@ -28,11 +28,21 @@ returns-in-Long-clause-answers g c = λ request keeps.
 pub returns-else-not-is_enough-clause-answers : goal.returns-else-not-is_enough-clause-answers
 returns-else-not-is_enough-clause-answers g c = λ request keeps.
     let clients = g.C.Clients.meaning c.args.clients.now in
-    let said = said_by c.do_command-in-Bytes.result c.do_command-in-Bytes.new.out.bytes in
+    let over = c.do_kept.ensures in
+    let said = said_by c.do_kept.result c.do_kept.new.out.bytes in
     inr (subst (λ (x : InputSize).
     AnswersAsked g.H.Disk.tells clients (ReadsGiven x request.input) (Do c.args.asked)
-    c.args.host.now c.do_command-in-Bytes.new.host said) (sym (keeps.0 ∙ c.in-Bytes.is))
-    (given_enough c.in-Bytes.field-0 c.args.most c.args.kept.now request.input keeps.1
-    (given_told c.of-input.result) (given_told c.do_command-in-Bytes.new.input) c.of-input.ensures
-    refl g.H.Disk.tells clients c.args.host.now c.do_command-in-Bytes.new.host said c.args.asked
-    (sym c.is_enough.ensures ∙ search rules) c.do_command-in-Bytes.ensures.answers))
+    c.args.host.now c.do_kept.new.host said) (sym (keeps.0 ∙ c.in-Bytes.is))
+    (given_enough c.in-Bytes.field-0 c.args.most c.args.kept.now request.input keeps.1 over.input
+    over.input' over.bytes over.unfailing g.H.Disk.tells clients c.args.host.now
+    c.do_kept.new.host said c.args.asked (sym c.is_enough.ensures ∙ search rules)
+    over.done.answers))
+
+pub returns-in-Failed-clause-ready : goal.returns-in-Failed-clause-ready
+returns-in-Failed-clause-ready g c = c.do_command.ensures.ready
+
+pub returns-in-Long-clause-ready : goal.returns-in-Long-clause-ready
+returns-in-Long-clause-ready g c = c.do_command-in-Long.ensures.ready
+
+pub returns-else-not-is_enough-clause-ready : goal.returns-else-not-is_enough-clause-ready
+returns-else-not-is_enough-clause-ready g c = c.do_kept.ensures.done.ready

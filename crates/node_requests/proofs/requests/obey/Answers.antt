@@ -123,7 +123,7 @@ pub returns-in-Show-clause-does : goal.returns-in-Show-clause-does
 returns-in-Show-clause-does g c =
     as_asked (g.C.Clients.meaning c.args.clients.now) c.args.asked
     command.Show _ _ _ _ _ _ _ c.in-Show.is (
-      c.list_loaded.ensures (g.C.Clients.meaning c.args.clients.now) c.args.host.now
+      c.put_listing.ensures (g.C.Clients.meaning c.args.clients.now) c.args.host.now
           c.requires.served.ready.loaded,
       record { same = refl; same_faults = refl },
     )
@@ -137,7 +137,7 @@ pub returns-in-Inbox-clause-does : goal.returns-in-Inbox-clause-does
 returns-in-Inbox-clause-does g c =
     as_asked (g.C.Clients.meaning c.args.clients.now) c.args.asked
     command.Inbox _ _ _ _ _ _ _ c.in-Inbox.is (
-      c.list_loaded-in-Inbox.ensures (g.C.Clients.meaning c.args.clients.now) c.args.host.now
+      c.put_listing-in-Inbox.ensures (g.C.Clients.meaning c.args.clients.now) c.args.host.now
           c.requires.served.ready.loaded,
       record { same = refl; same_faults = refl },
     )
@@ -151,7 +151,7 @@ pub returns-in-InboxFrom-clause-does : goal.returns-in-InboxFrom-clause-does
 returns-in-InboxFrom-clause-does g c =
     as_asked (g.C.Clients.meaning c.args.clients.now) c.args.asked
     (command.InboxFrom c.in-InboxFrom.from c.in-InboxFrom.count) _ _ _ _ _ _ _ c.in-InboxFrom.is (
-      c.list_loaded-in-InboxFrom.ensures (g.C.Clients.meaning c.args.clients.now) c.args.host.now
+      c.put_listing-in-InboxFrom.ensures (g.C.Clients.meaning c.args.clients.now) c.args.host.now
           c.requires.served.ready.loaded,
       record { same = refl; same_faults = refl },
     )

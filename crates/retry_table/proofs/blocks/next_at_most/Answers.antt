@@ -14,12 +14,12 @@ pub overflow_mul-block : goal.overflow_mul-block
 overflow_mul-block c =
     omega (arith, c.requires.small, block_within c.args.times c.args.bound c.args.rows.now c.args.from c.args.tree.now c.requires c.in_default.ensures.none c.in_ok-block.block c.in_ok-block.ensures)
 
-pub next_in_block-requires-2 : goal.next_in_block-requires-2
-next_in_block-requires-2 c =
+pub next_in_block-requires : goal.next_in_block-requires
+next_in_block-requires c =
     omega (arith, c.requires.small, block_within c.args.times c.args.bound c.args.rows.now c.args.from c.args.tree.now c.requires c.in_default.ensures.none c.in_ok-block.block c.in_ok-block.ensures)
 
 pub returns : goal.returns
 returns c =
-    let e = c.next_in_block-2.ensures in
+    let e = c.next_in_block.ensures in
     timely_behind c.args.times c.args.bound c.args.rows.now c.args.from c.args.tree.now c.requires c.in_default.ensures.none c.in_ok-block.block c.in_ok-block.ensures
-    c.next_in_block-2.result e.low e.timely e.before e.none
+    c.next_in_block.result e.low e.timely e.before e.none

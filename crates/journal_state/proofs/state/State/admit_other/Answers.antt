@@ -8,5 +8,5 @@ use Rattle.journal_state.proofs.state.State.admit_other.Goals as goal
 pub take_batch-requires-clause-allowed : goal.take_batch-requires-clause-allowed
 take_batch-requires-clause-allowed g c =
     let clients : Meaning = g.C.Clients.meaning c.args.clients.now in
-    let yes : allows clients c.bring_for.new.self.facts c.args.batch ≡ true = sym c.in_ok-allows_batch.ensures ∙ c.if-not-branch.false in
-    (clients, subst (λ (f : Facts). Allowed clients f c.args.batch) (sym c.reserve.ensures.facts) ((c.allows_is_allowed.ensures clients c.bring_for.new.self.facts c.args.batch).0 yes))
+    let yes : allows clients c.announce.new.self.facts c.args.batch ≡ true = sym c.in_ok-allows_batch.ensures ∙ c.if-not-branch.false in
+    (clients, subst (λ (f : Facts). Allowed clients f c.args.batch) (sym c.reserve.ensures.facts) ((c.allows_is_allowed.ensures clients c.announce.new.self.facts c.args.batch).0 yes))

@@ -1,32 +1,8 @@
-use Rattle.std.proofs.Common.{ap, ◌∙◌}
-use Rattle.node_service.specs.Lives.{shown_bytes}
-use Rattle.node_life.specs.Requests.{bare}
-use Rattle.node_life.proofs.AnswerLemmas.{ready_goes_on, request_done, request_unread, synced_stays}
-use Rattle.node_life.proofs.SettleLemmas.{stands_ready}
+use Rattle.node_life.proofs.AnswerLemmas.{ready_goes_on}
 use Rattle.node_life.proofs.holder.HolderNode.answer.Goals as goal
 
-pub returns-in-Ok-clause-answered : goal.returns-in-Ok-clause-answered
-returns-in-Ok-clause-answered g c = λ request words keeps.
-    let clients = g.C.Clients.meaning c.args.self.now.clients.now in
-    request_done g.H.Disk.tells clients request c.args.words.now c.in-Ok.asked c.args.host.now
-    c.answer_command.new.host c.answer_command.result.came
-    (shown_bytes c.answer_command.result.shown c.answer_command.new.out.bytes)
-    c.answer_command.result.ends words c.in-Ok.ensures.asked
-    (c.answer_command.ensures.answers request keeps)
-    (synced_stays clients c.answer_command.new.store (g.H.Disk.tells c.answer_command.new.host)
-    c.answer_command.result c.answer_command.ensures.ready)
-
-pub returns-in-Err-clause-answered : goal.returns-in-Err-clause-answered
-returns-in-Err-clause-answered g c = λ request words keeps.
-    let clients = g.C.Clients.meaning c.args.self.now.clients.now in
-    request_unread g.H.Disk.tells clients request c.args.words.now c.in-Err.fault c.args.host.now
-    c.nothing_done.result.came (shown_bytes c.nothing_done.result.shown c.args.out.now.bytes)
-    c.nothing_done.result.ends words c.in-Err.ensures.asked
-    (c.nothing_done.ensures c.args.out.now.bytes ∙ ap bare c.from.ensures)
-    (stands_ready clients c.args.self.now.store (g.H.Disk.tells c.args.host.now) c.requires.may)
-
-pub returns-in-Ok-clause-stays : goal.returns-in-Ok-clause-stays
-returns-in-Ok-clause-stays g c =
-    ready_goes_on (g.C.Clients.meaning c.args.self.now.clients.now) c.answer_command.new.store
-    (g.H.Disk.tells c.answer_command.new.host) c.answer_command.result
-    c.answer_command.ensures.ready
+pub returns-clause-stays : goal.returns-clause-stays
+returns-clause-stays g c =
+    ready_goes_on (g.C.Clients.meaning c.args.self.now.clients.now) c.answer_request.new.store
+    (g.H.Disk.tells c.answer_request.new.host) c.answer_request.result
+    c.answer_request.ensures.ready

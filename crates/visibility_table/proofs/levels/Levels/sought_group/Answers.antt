@@ -2,7 +2,7 @@ use Rattle.std.proofs.Common.{◌≡◌, Some, None, MatchOption, slice_get, sym
 use Rattle.sync_rules.specs.Facts.{group_at}
 use Rattle.visibility_table.specs.Table.{TableOfLevels, group_number}
 use Rattle.visibility_table.proofs.Groups.{kept_number, numbered}
-use Rattle.visibility_table.proofs.levels.Levels.group.Goals as goal
+use Rattle.visibility_table.proofs.levels.Levels.sought_group.Goals as goal
 
 none : (c : goal.After-from_residual)
     → c.from_residual.result ≡ group_number c.args.self.now.groups c.args.id.now

@@ -1,0 +1,3 @@
+pub mod Places
+pub mod Waking
+pub mod Flapping
