@@ -1,4 +1,4 @@
--- What the calls of a node answer and leave, of the work that they hand on.
+-- What the calls of a node over a store answer and leave, of the work that they hand on.
 use Rattle.std.proofs.Common.{◌≡◌, ℕ, ◌<◌, Bool, true, false, List, length, get_or, set, refl, sym}
 use Rattle.std.proofs.Common.{ap, ◌∙◌, subst, inl, arith, None, Some, Result, Ok, Err}
 use Rattle.std.specs.Prelude.{IfErr, IfOk, IfSome, IsErrOf, OnOk}
@@ -16,11 +16,11 @@ use Rattle.sync_node.specs.declared.fault.NodeFault.TheVariants as fault
 use Rattle.sync_node.specs.declared.link.Link.{Link}
 use Rattle.sync_course.specs.Free.{IsPlain}
 use Rattle.sync_node.specs.Batches.{AddStops, Added, IsUndone}
-use Rattle.sync_node.specs.Calls.{AddingLeaves, CallAnswers, CallGoes, CallStops, StopsBy}
+use Rattle.sync_node.specs.Calls.{AddingLeaves, AsideGoes, CallAnswers, CallStops, StopsBy}
 use Rattle.sync_node.specs.Causes.{LinksGo}
 use Rattle.sync_node.specs.Faults.{answer_of, has_failed}
 use Rattle.sync_node.specs.Keeps.{HasOrStops, IsReadyOrRose, LinkKeeps, LinksKeep, LinksWork, OfLinks, StayAttached, stop_of}
-use Rattle.sync_node.specs.Node.{AnswersAndCloses, AreAttached, IsNode, KeepsSessions, MayGoOn, MayRun, NodeValue}
+use Rattle.sync_node.specs.Node.{AnswersAndCloses, AreAttached, AsideValue, IsAside, KeepsSessions, MayGoOn, MayRun, NodeValue, node_with}
 use Rattle.sync_node.specs.OnRuns.{ByFault}
 use Rattle.sync_node.specs.Sending.{ClosesSome}
 use Rattle.sync_node.specs.Working.{HasGivenItems, MayWork}
@@ -120,11 +120,11 @@ pub record CallLeaves {T H : Type 0} (clients : Meaning) (n n' : NodeValue) (hos
     (o o' : Outside) (result : Result T NodeFault) : Type 0 where
   pub answers : CallAnswers n n' host host' result
   pub may : MayRun clients n' o'
-  pub goes : CallGoes n n' o o'
+  pub goes : AsideGoes n n' o o'
 
 -- of a node that was closed
 pub leaves_closed : {H : Type 0} (T : Type 0) (clients : Meaning) (n : NodeValue) (host : H)
-    (o : Outside) → IsNode n → n.closed ≡ true
+    (o : Outside) → IsAside n → n.closed ≡ true
     → CallLeaves {T = T} clients n n host host o o (Err fault.Closed)
 leaves_closed T clients n host o node closed = record {
   answers = record {
@@ -133,7 +133,7 @@ leaves_closed T clients n host o node closed = record {
   };
   may = never n.closed closed;
   goes = record {
-    node = node;
+    aside = node;
     goes = goes_none o;
     same_limit = refl;
     same_format = refl;
@@ -174,7 +174,7 @@ module _ {T : Type 0} (work : Result T Fault) {result : Result T NodeFault}
       by (Err node_fault.Full) stopped = stopped
 
   pub leaves_by : {H : Type 0} (clients : Meaning) (n n' : NodeValue) (host host' : H)
-      (o o' : Outside) → n.closed ≡ false → IsNode n' → n'.first ≡ n.first
+      (o o' : Outside) → n.closed ≡ false → IsAside n' → n'.first ≡ n.first
       → n'.closed ≡ has_failed work → LinksGo n.links n'.links o o'
       → n'.store.limit ≡ n.store.limit → n'.store.format ≡ n.store.format
       → OnOk work (MayGoOn clients n'.links n'.store o')
@@ -187,7 +187,7 @@ module _ {T : Type 0} (work : Result T Fault) {result : Result T NodeFault}
     };
     may = by_ok work closed may;
     goes = record {
-      node = node;
+      aside = node;
       goes = go.goes;
       same_limit = limit;
       same_format = format;
@@ -215,12 +215,20 @@ if_stopped (Err e) P stopped = stopped
 
 -- ---- work over the links of a node
 
+-- what stands beside a store, whose fields are used
+module _ {a b : AsideValue} (is : a ≡ b) (s : StoreValue) where
+  pub with_is : node_with a s ≡ node_with b s
+  with_is = ap (λ (x : AsideValue). node_with x s) is
+
+  pub aside_is : IsAside (node_with b s) → IsAside (node_with a s)
+  aside_is aside = subst (λ (x : AsideValue). IsAside (node_with x s)) (sym is) aside
+
 module _ {clients : Meaning} {n m : NodeValue} {o : Outside} (is : n ≡ m) (may : MayRun clients m o)
     (opened : n.closed ≡ false) where
   pub node_may : MayGoOn clients n.links n.store o
   node_may = subst (λ (x : NodeValue). MayRun clients x o) (sym is) may opened
 
-  module _ (node : IsNode n) {number : ℕ} {l : Link} (within : number < length m.links)
+  module _ (node : IsAside n) {number : ℕ} {l : Link} (within : number < length m.links)
       (found : l ≡ get_or n.links number l) where
     -- the link of this number
     pub node_link : InRun n.first number n.links l
@@ -251,46 +259,43 @@ pub record CallWorks {T H : Type 0} (clients : Meaning) (n n' : NodeValue) (host
   pub kept : KeepsSessions n n'
   pub stops : CallStops clients n' o o' result
 
-module _ {T : Type 0} (work : Result T Fault) (clients : Meaning) (n n' : NodeValue)
-    (o o' : Outside) (opened : n.closed ≡ false) (first : n'.first ≡ n.first)
-    (closed : n'.closed ≡ has_failed work)
-    (keeps : LinksKeep clients n.links n'.links n.store n'.store o o' (stop_of work)) where
+module _ {T : Type 0} (work : Result T Fault) {clients : Meaning} {first : ℕ}
+    {links links' : List Link} {closed closed' : Bool} {s s' : StoreValue} {o o' : Outside}
+    (node : IsAside (record { store = s; first = first; links = links; closed = closed }))
+    (opened : closed ≡ false) (is : closed' ≡ has_failed work)
+    (keeps : LinksKeep clients links links' s s' o o' (stop_of work)) where
   -- the node is one still
-  pub node_by : IsNode n → IsNode n'
-  node_by node =
-      let long : length n'.links ≡ length n.links =
-      same_long n'.links n.links keeps.same_sessions in
+  pub node_by : IsAside (record { store = s'; first = first; links = links'; closed = closed' })
+  node_by =
+      let long : length links' ≡ length links = same_long links' links keeps.same_sessions in
       record {
         few = omega (arith, long, node.few);
-        attached = by work closed keeps.store.answered;
+        attached = by work is keeps.store.answered;
       }
     where
-      by : (w : Result T Fault) → n'.closed ≡ has_failed w
-          → HasOrStops (StayAttached clients n.links n'.links n.store n'.store o') clients n'.store o
-          o' (stop_of w)
-          → n'.closed ≡ false → AreAttached n'.first n'.links n'.store.state.facts
-      by (Ok x) closed has still =
-          subst (λ (k : ℕ). AreAttached k n'.links n'.store.state.facts) (sym first)
-          (has.attached n.first (node.attached opened))
-      by (Err e) closed has still = never n'.closed closed still
+      by : (w : Result T Fault) → closed' ≡ has_failed w
+          → HasOrStops (StayAttached clients links links' s s' o') clients s' o o' (stop_of w)
+          → closed' ≡ false → AreAttached first links' s'.state.facts
+      by (Ok x) closed has still = has.attached first (node.attached opened)
+      by (Err e) closed has still = never closed' closed still
 
   pub works_by : {H : Type 0} {result : Result T NodeFault} (host host' : H)
-      → result ≡ answer_of work → IsNode n'
-      → CallWorks clients n n' host host' o o' result
-  works_by host host' is node = record {
+      → result ≡ answer_of work
+      → CallWorks clients (record { store = s; first = first; links = links; closed = closed })
+      (record { store = s'; first = first; links = links'; closed = closed' }) host host' o o' result
+  works_by host host' answer = record {
     leaves =
-        leaves_by work is clients n n' host host' o o' opened node first closed keeps.go
-        keeps.store.same_limit keeps.store.same_format (by work keeps.store.answered).0;
-    kept = record { same_first = first; same_sessions = keeps.same_sessions };
-    stops =
-        stops_by work is (IsReadyOrRose clients n'.store o o') (by work keeps.store.answered).1;
+        leaves_by work answer clients (record { store = s; first = first; links = links; closed = closed })
+        (record { store = s'; first = first; links = links'; closed = closed' }) host host' o o'
+        opened node_by refl is keeps.go keeps.store.same_limit keeps.store.same_format
+        (by work keeps.store.answered).0;
+    kept = record { same_first = refl; same_sessions = keeps.same_sessions };
+    stops = stops_by work answer (IsReadyOrRose clients s' o o') (by work keeps.store.answered).1;
   }
     where
       by : (w : Result T Fault)
-          → HasOrStops (StayAttached clients n.links n'.links n.store n'.store o') clients n'.store o
-          o' (stop_of w)
-          → OnOk w (MayGoOn clients n'.links n'.store o')
-          × IfErr w (IsReadyOrRose clients n'.store o o')
+          → HasOrStops (StayAttached clients links links' s s' o') clients s' o o' (stop_of w)
+          → OnOk w (MayGoOn clients links' s' o') × IfErr w (IsReadyOrRose clients s' o o')
       by (Ok x) has = (has.may, tt)
       by (Err e) has = (tt, has)
 

@@ -5,6 +5,7 @@ mod TakeLaws
 mod CauseLaws
 mod KeepLaws
 mod CallLaws
+pub mod AsideLaws
 pub mod SentLaws
 mod CourseRuns
 pub mod CourseLaws

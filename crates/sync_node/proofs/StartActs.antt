@@ -19,7 +19,7 @@ use Rattle.journal_state.specs.Whole.{StateValue}
 use Rattle.std.specs.Prelude.{IfErr, IfSome, IsErrAnd, OnErr, slice_get, OnOk}
 use Rattle.entry_codec.specs.Standing.{room_of}
 use Rattle.outside.specs.declared.failed.Failed.{Failed}
-use Rattle.outside.specs.declared.limits.TheConstants.{MAX_JOURNAL, LINKS}
+use Rattle.outside.specs.declared.limits.TheConstants.{MAX_JOURNAL}
 use Rattle.outside.specs.Host.{SendsOnLink}
 use Rattle.outside.specs.Outside.{Outside}
 use Rattle.outside.proofs.RunLaws.{front_same}
@@ -36,6 +36,7 @@ use Rattle.sync_course.specs.Turns.{Attaches, Greets, Place, Terms, attached, un
 use Rattle.sync_course.proofs.ReadingLaws.{fresh_has_read}
 use Rattle.sync_course.proofs.RunLaws.{get_push_cases}
 use Rattle.sync_node.specs.declared.fault.Fault.{Fault}
+use Rattle.sync_node.specs.declared.limits.TheConstants.{MOST_LINKS}
 use Rattle.sync_node.specs.Batches.{CommitStops, Committed, IsUndoneBy}
 use Rattle.sync_node.specs.Did.{Did}
 use Rattle.sync_node.specs.OnRuns.{BeginStopped, BeginWent, GreetsBy, IsGreeting, RunActs, RunStopped, RunWent, StartStopped, StartWent, StartWentLast, StartWorks}
@@ -56,7 +57,7 @@ use Rattle.sync_rules.specs.Steps.{IsSettled}
 use Rattle.sync_node.specs.Going.{LetsNothingFall}
 use Rattle.sync_node.specs.Causes.{LinksGo, PushesOne}
 use Rattle.sync_node.specs.Faults.{answer_of, has_failed}
-use Rattle.sync_node.specs.Node.{AreAttached, IsAttached, IsNode, MayGoOn, NodeValue}
+use Rattle.sync_node.specs.Node.{AreAttached, IsAside, IsAttached, MayGoOn, NodeValue}
 use Rattle.sync_node.proofs.CallLaws.{never}
 use Rattle.sync_node.proofs.CauseLaws.{links_go_push, links_go_same}
 use Rattle.sync_node.specs.declared.fault.NodeFault.{NodeFault}
@@ -548,38 +549,40 @@ module _ (clients : Meaning) (first link : ℕ) (x : Session) (links : List Link
 
 pub record AttachComes (clients : Meaning) (n n' : NodeValue) (o o' : Outside)
     (work : Result (Unit {0}) Fault) : Type 0 where
-  pub node : IsNode n'
+  pub node : IsAside n'
   pub go : LinksGo n.links n'.links o o'
   pub pushes : (result : Result (Unit {0}) NodeFault) → result ≡ answer_of work
       → PushesOne result n.links n'.links
   pub may : OnOk work (MayGoOn clients n'.links n'.store o')
 
-module _ (clients : Meaning) (n n' : NodeValue) (link : ℕ) (x : Session) (o o' : Outside)
-    (node : IsNode n) (opened : n.closed ≡ false) (number : x.number ≡ n.store.state.facts.begun)
-    (last : length n.links ≡ link) (few : link < LINKS) (dialled : link < o.links.dialled)
-    (first : n'.first ≡ n.first) (goes : LetsNothingFall o o') where
-  pub attach_comes : (work : Result (Unit {0}) Fault) → n'.closed ≡ has_failed work
-      → OnOk work (StartWentLast clients link x n.links n'.links n.store n'.store o o')
-      → OnErr work (n'.links ≡ n.links) → AttachComes clients n n' o o' work
-  attach_comes (Ok u) closed behind same =
-      let longer : length n'.links ≡ length n.links + 1 =
+module _ (clients : Meaning) (link : ℕ) (x : Session) (o o' : Outside) {first : ℕ}
+    {links links' : List Link} {closed closed' : Bool} {s s' : StoreValue}
+    (node : IsAside (record { store = s; first = first; links = links; closed = closed }))
+    (opened : closed ≡ false) (number : x.number ≡ s.state.facts.begun)
+    (last : length links ≡ link) (few : link < MOST_LINKS) (dialled : link < o.links.dialled)
+    (goes : LetsNothingFall o o') where
+  pub attach_comes : (work : Result (Unit {0}) Fault) → closed' ≡ has_failed work
+      → OnOk work (StartWentLast clients link x links links' s s' o o')
+      → OnErr work (links' ≡ links)
+      → AttachComes clients (record { store = s; first = first; links = links; closed = closed })
+      (record { store = s'; first = first; links = links'; closed = closed' }) o o' work
+  attach_comes (Ok u) is behind same =
+      let longer : length links' ≡ length links + 1 =
       ap (λ (ls : List Link). length ls) behind.pushed
-      ∙ length-append n.links (behind.link ∷ []) in
+      ∙ length-append links (behind.link ∷ []) in
       record {
         node = record {
           few = omega (arith, longer, last, few);
           attached = λ _.
-              subst (λ (k : ℕ). AreAttached k n'.links n'.store.state.facts) (sym first)
-              (subst (λ (ls : List Link). AreAttached n.first ls n'.store.state.facts)
-              (sym behind.pushed)
-              (attached_push clients n.first link x n.links behind.link n.store n'.store o o'
-              (node.attached opened) number last behind.starts.facts behind.starts.begun));
+              subst (λ (ls : List Link). AreAttached first ls s'.state.facts) (sym behind.pushed)
+              (attached_push clients first link x links behind.link s s' o o'
+              (node.attached opened) number last behind.starts.facts behind.starts.begun);
         };
         go =
-            links_go_push link n.links n'.links behind.link o o' last behind.pushed goes
+            links_go_push link links links' behind.link o o' last behind.pushed goes
             behind.starts.begun.cause;
-        pushes = λ result is.
-            subst (λ (r : Result (Unit {0}) NodeFault). PushesOne r n.links n'.links) (sym is)
+        pushes = λ result answer.
+            subst (λ (r : Result (Unit {0}) NodeFault). PushesOne r links links') (sym answer)
             (behind.link, behind.pushed);
         may = record {
           ready = behind.starts.begun.ready;
@@ -587,13 +590,13 @@ module _ (clients : Meaning) (n n' : NodeValue) (link : ℕ) (x : Session) (o o'
           dialled = omega (arith, dialled, last, longer, goes.links.dialled);
         };
       }
-  attach_comes (Err e) closed behind same = record {
+  attach_comes (Err e) is behind same = record {
     node = record {
       few = omega (arith, ap (λ (ls : List Link). length ls) same, node.few);
-      attached = never n'.closed closed;
+      attached = never closed' is;
     };
-    go = links_go_same n.links n'.links o o' same goes;
-    pushes = λ result is.
-        subst (λ (r : Result (Unit {0}) NodeFault). PushesOne r n.links n'.links) (sym is) same;
+    go = links_go_same links links' o o' same goes;
+    pushes = λ result answer.
+        subst (λ (r : Result (Unit {0}) NodeFault). PushesOne r links links') (sym answer) same;
     may = tt;
   }

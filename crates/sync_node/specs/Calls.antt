@@ -12,7 +12,7 @@ use Rattle.sync_node.specs.declared.fault.NodeFault.{NodeFault}
 use Rattle.sync_node.specs.declared.fault.NodeFault.TheVariants as node
 use Rattle.sync_node.specs.Causes.{FailByCause}
 use Rattle.sync_node.specs.Going.{LetsNothingFall}
-use Rattle.sync_node.specs.Node.{AnswersAndCloses, IsNode, NodeValue, StaysClosed}
+use Rattle.sync_node.specs.Node.{AnswersAndCloses, IsAside, IsNode, NodeValue, StaysClosed}
 use Rattle.sync_node.specs.Keeps.{IsReadyOrRose}
 use Rattle.sync_node.specs.Starting.{StartStops, StartsNone}
 
@@ -26,6 +26,15 @@ pub record CallAnswers {T H : Type 0} (n n' : NodeValue) (host host' : H)
 -- nothing falls; and a link stands failed only where it did so before or a call on it failed
 pub record CallGoes (n n' : NodeValue) (o o' : Outside) : Type 0 where
   pub node : IsNode n'
+  pub goes : LetsNothingFall o o'
+  pub same_limit : n'.store.limit ≡ n.store.limit
+  pub same_format : n'.store.format ≡ n.store.format
+  pub same_first : n'.first ≡ n.first
+  pub cause : FailByCause n.links n'.links o o'
+
+-- the same of a call over a store that is lent to it
+pub record AsideGoes (n n' : NodeValue) (o o' : Outside) : Type 0 where
+  pub aside : IsAside n'
   pub goes : LetsNothingFall o o'
   pub same_limit : n'.store.limit ≡ n.store.limit
   pub same_format : n'.store.format ≡ n.store.format

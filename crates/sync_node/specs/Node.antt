@@ -11,6 +11,7 @@ use Rattle.sync_store.specs.Store.{StoreValue, store_code}
 use Rattle.sync_store.specs.Ready.{IsReady}
 use Rattle.sync_node.specs.declared.fault.NodeFault.{NodeFault}
 use Rattle.sync_node.specs.declared.fault.NodeFault.TheVariants as fault
+use Rattle.sync_node.specs.declared.limits.TheConstants.{MOST_LINKS}
 use Rattle.sync_node.specs.declared.link.Link.{Link}
 use Rattle.sync_course.specs.contracts.ends.LinkEnd as link_ending
 use Rattle.sync_rules.specs.contracts.entries.Session as session
@@ -48,6 +49,33 @@ node_code =
     (λ n. (n.store, (n.first, (n.links, n.closed))))
     (λ p. record { store = p.0; first = p.1.0; links = p.1.1.0; closed = p.1.1.1 })
     (λ _. refl)
+
+-- what a node has beside its store: the number of sessions when it was made, the links that are
+-- attached, and whether a call failed
+pub record AsideValue : Type 0 where
+  pub first : ℕ
+  pub links : List Link
+  pub closed : Bool
+
+abbrev pub aside_code : Coded AsideValue
+aside_code =
+    code_by (ℕ × (List Link × Bool)) (coded× coded_ℕ (coded× (coded_list link_code) coded_bool))
+    (λ a. (a.first, (a.links, a.closed)))
+    (λ p. record { first = p.0; links = p.1.0; closed = p.1.1 })
+    (λ _. refl)
+
+-- the node that it is with a store
+abbrev pub node_with : AsideValue → StoreValue → NodeValue
+node_with a store = record {
+  store = store;
+  first = a.first;
+  links = a.links;
+  closed = a.closed;
+}
+
+-- what is made beside a store
+abbrev pub new_aside : StoreValue → AsideValue
+new_aside store = record { first = store.state.facts.begun; links = []; closed = false }
 
 -- a node that is made of a store
 abbrev pub new_node : StoreValue → NodeValue
@@ -95,6 +123,11 @@ pub record MayGoOn (clients : Meaning) (links : List Link) (s : StoreValue)
 -- what every node keeps
 pub record IsNode (n : NodeValue) : Type 0 where
   pub few : length n.links ≤ LINKS
+  pub attached : n.closed ≡ false → AreAttached n.first n.links n.store.state.facts
+
+-- what a node keeps that is made of a store and what stands beside it
+pub record IsAside (n : NodeValue) : Type 0 where
+  pub few : length n.links ≤ MOST_LINKS
   pub attached : n.closed ≡ false → AreAttached n.first n.links n.store.state.facts
 
 -- where no call failed, the node may go on

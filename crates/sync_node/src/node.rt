@@ -1,22 +1,16 @@
 //! The node.
 ghost use Rattle.std.specs.Prelude.{◌≡◌, ◌<◌, ◌≤◌, false, true, length, IfOk};
 ghost use Rattle.outside.specs.declared.limits.TheConstants.{LINKS};
-ghost use Rattle.sync_node.specs.Faults.{answer_of, has_failed};
 ghost use Rattle.sync_node.specs.Node.{asked_among};
 
-use crate::attaching::attach_on;
-use crate::fault::{Fault, NodeFault};
-use crate::hearing::receive_on;
-use crate::link::Link;
-use crate::sending::send_all;
-use crate::told::add_settled;
-use crate::turning::turn_all;
+use crate::aside::Aside;
+use crate::fault::NodeFault;
 use outside::Host;
 use std::alloc::{AllocError, Global};
 use std::marker::Model;
-use sync_course::{LinkEnd, PIECE_LEN};
+use sync_course::LinkEnd;
 use sync_ids::Nonce;
-use sync_rules::{Batch, Clients, Mode, Session};
+use sync_rules::{Batch, Clients, Mode};
 use sync_store::Store;
 
 /// What runs on a link.
@@ -43,60 +37,22 @@ pub enum Turned {
 /// node was made, the links with their sessions, and whether a call failed.
 #[derive(Drop)]
 pub struct Node {
-    alloc: Global,
     store: Store,
-    first: u32,
-    links: Vec<Link>,
-    buffer: Vec<u8>,
-    closed: bool,
+    aside: Aside,
 }
 
 impl Model for Node {
-    ghost use Rattle.std.specs.Prelude.{◌≡◌, length};
-    ghost use Rattle.sync_node.specs.Node.{NodeValue, node_code};
+    ghost use Rattle.sync_node.specs.Node.{NodeValue, node_code, node_with};
 
     ghost Value = { NodeValue };
 
     ghost coded = { node_code };
 
     ghost use Rattle.sync_node.specs.Node.{IsNode};
-    ghost use Rattle.sync_course.specs.declared.TheConstants.{PIECE_LEN};
 
-    ghost view = { λ n. record {
-      store = n.store;
-      first = n.first;
-      links = n.links.items;
-      closed = n.closed;
-    } };
+    ghost view = { λ n. node_with n.aside n.store };
 
-    ghost invariant = { λ n. (length n.buffer.items ≡ PIECE_LEN) × IsNode (record {
-      store = n.store;
-      first = n.first;
-      links = n.links.items;
-      closed = n.closed;
-    }) };
-}
-
-// What a node answers whose work came to this; where the work failed it is closed from then on.
-fn answer<T>(closed: &mut bool, work: Result<T, Fault>) -> Result<T, NodeFault>
-    requires { closed.old ≡ false }
-    ensures answer { result ≡ answer_of work }
-    ensures closed { closed.new ≡ has_failed work }
-{
-    match work {
-        Ok(value) => Ok(value),
-        Err(fault) => {
-            *closed = true;
-            Err(NodeFault::from(fault))
-        }
-    }
-}
-
-// A buffer of so many bytes.
-fn zeros(alloc: Global, len: usize) -> Result<Vec<u8>, AllocError>
-    ensures { IfOk result (λ v. length v.items ≡ len) }
-{
-    vec![in alloc; 0u8; len]
+    ghost invariant = { λ n. IsNode (node_with n.aside n.store) };
 }
 
 impl Node {
@@ -130,15 +86,8 @@ impl Node {
         requires { store.closed ≡ false }
         ensures { IfOk result (λ n. n ≡ new_node store) }
     {
-        let buffer = zeros(alloc, PIECE_LEN)?;
-        Ok(Node {
-            alloc,
-            first: store.sessions(),
-            store,
-            links: Vec::new(alloc),
-            buffer,
-            closed: false,
-        })
+        let aside = Aside::new(alloc, &store)?;
+        Ok(Node { store, aside })
     }
 
     /// The store.
@@ -153,7 +102,7 @@ impl Node {
     pub fn asked(&self) -> u32
         ensures { result ≡ asked_among self.now.links }
     {
-        count_asked(self.links.as_slice())
+        self.aside.asked()
     }
 
     /// How a link stands that is attached.
@@ -161,7 +110,7 @@ impl Node {
         requires { link < length self.now.links }
         ensures { option_map (λ l. l.end) (slice_get self.now.links link) ≡ Some result }
     {
-        self.links[link as usize].end
+        self.aside.ending(link)
     }
 
     /// Commits a batch of one entry that adds a contact, a group or a message, or sets a level, and
@@ -200,11 +149,7 @@ impl Node {
             (AddsAtMost (C.meaning clients.now) j batch) self.new.store (H.tells host.old)
             (H.tells host.new) }
     {
-        if self.closed {
-            return Err(NodeFault::Closed);
-        }
-        let work = add_settled(&mut self.store, host, clients, batch);
-        answer(&mut self.closed, work)
+        self.aside.add(&mut self.store, host, clients, batch)
     }
 
     /// Begins a session on a link that was dialled, the next number: commits it, and sends VERSIONS
@@ -247,26 +192,8 @@ impl Node {
             self.old.links self.new.links self.old.store self.new.store (H.tells host.old)
             (H.tells host.new))) }
     {
-        if self.closed {
-            return Err(NodeFault::Closed);
-        }
-        let session = Session {
-            number: self.store.sessions(),
-            contact: plan.contact,
-            mode: plan.mode,
-            latency: plan.latency,
-            nonce,
-        };
-        let work = attach_on(
-            self.alloc,
-            &mut self.store,
-            host,
-            clients,
-            &mut self.links,
-            link,
-            session,
-        );
-        answer(&mut self.closed, work)
+        self.aside
+            .attach(&mut self.store, host, clients, link, plan, nonce)
     }
 
     /// Asks a link once that is attached and still asked, and takes what came: the batch of each
@@ -298,19 +225,7 @@ impl Node {
             (C.meaning clients.now) self.old.first link self.old.links self.new.links
             self.old.store self.new.store (H.tells host.old) (H.tells host.new))) }
     {
-        if self.closed {
-            return Err(NodeFault::Closed);
-        }
-        let idle = receive_on(
-            self.alloc,
-            &mut self.store,
-            host,
-            clients,
-            link,
-            &mut self.links[link as usize],
-            self.buffer.as_mut_slice(),
-        );
-        answer(&mut self.closed, idle)
+        self.aside.receive(&mut self.store, host, clients, link)
     }
 
     /// Commits and sends what is due at this time in milliseconds on a link that is attached and
@@ -344,19 +259,8 @@ impl Node {
             (C.meaning clients.now) self.old.first link now self.old.links self.new.links
             self.old.store self.new.store (H.tells host.old) (H.tells host.new))) }
     {
-        if self.closed {
-            return Err(NodeFault::Closed);
-        }
-        let made = send_all(
-            self.alloc,
-            &mut self.store,
-            host,
-            clients,
-            link,
-            &mut self.links[link as usize],
-            now,
-        );
-        answer(&mut self.closed, made)
+        self.aside
+            .send_due(&mut self.store, host, clients, link, now)
     }
 
     /// Goes through the links in order: asks each that is still asked, and sends what is due on
@@ -384,31 +288,6 @@ impl Node {
             (C.meaning clients.now) self.old.first self.old.links self.new.links self.old.store
             self.new.store (H.tells host.old) (H.tells host.new))) }
     {
-        if self.closed {
-            return Err(NodeFault::Closed);
-        }
-        let turned = turn_all(
-            self.alloc,
-            &mut self.store,
-            host,
-            clients,
-            self.links.as_mut_slice(),
-            self.buffer.as_mut_slice(),
-        );
-        answer(&mut self.closed, turned)
+        self.aside.turn(&mut self.store, host, clients)
     }
-}
-
-// How many links are still asked.
-fn count_asked(links: &[Link]) -> u32
-    requires { length links.now ≤ LINKS }
-    ensures { result ≡ asked_among links.now }
-{
-    let mut asked = 0;
-    'links: for link in links {
-        if link.is_asked() {
-            asked += 1;
-        }
-    }
-    asked
 }

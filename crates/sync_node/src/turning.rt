@@ -1,7 +1,7 @@
 //! A turn: of one link, and of all links in order.
 ghost use Rattle.std.specs.Prelude.{◌≡◌, ◌≤◌, length, OnOk};
 ghost use Rattle.sync_course.specs.declared.TheConstants.{PIECE_LEN};
-ghost use Rattle.outside.specs.declared.limits.TheConstants.{LINKS};
+ghost use Rattle.sync_node.specs.declared.limits.TheConstants.{MOST_LINKS};
 ghost use Rattle.sync_node.specs.Courses.{is_still};
 ghost use Rattle.sync_node.specs.Keeps.{LinkWorks, LinksWork};
 ghost use Rattle.sync_node.specs.Node.{AreSome, MayGoOn};
@@ -33,7 +33,7 @@ pub(crate) fn turn_all<H: Host, C: Clients>(
     buffer: &mut [u8],
 ) -> Result<Turned, Fault>
     requires may { MayGoOn (C.meaning clients.now) links.old store.old (H.tells host.old) }
-    requires few { length links.old ≤ LINKS }
+    requires few { length links.old ≤ MOST_LINKS }
     requires attached { AreSome links.old store.old.state.facts }
     requires whole { length buffer.old ≡ PIECE_LEN }
     ensures { LinksWork AllTurned RoundStopped (C.meaning clients.now) links.old links.new store.old
@@ -61,7 +61,7 @@ fn turn_each<H: Host, C: Clients>(
     buffer: &mut [u8],
 ) -> Result<bool, Fault>
     requires may { MayGoOn (C.meaning clients.now) links.old store.old (H.tells host.old) }
-    requires few { length links.old ≤ LINKS }
+    requires few { length links.old ≤ MOST_LINKS }
     requires attached { AreSome links.old store.old.state.facts }
     requires whole { length buffer.old ≡ PIECE_LEN }
     ensures { LinksWork (LinksWent (length links.old)) LinksStopped (C.meaning clients.now) links.old
