@@ -1,5 +1,7 @@
 mod SettleLemmas
 mod AnswerLemmas
+mod LeaveLemmas
+mod LinkLemmas
 mod InputLemmas
 pub mod BegunLemmas
 pub mod WayLemmas

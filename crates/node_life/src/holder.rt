@@ -5,10 +5,11 @@ ghost use Rattle.commands.specs.declared.command.Command.TheVariants as command;
 ghost use Rattle.request_frames.specs.Laws.{KeepsOf};
 ghost use Rattle.request_frames.specs.Requests.{Request};
 ghost use Rattle.request_frames.specs.declared.reader.Stage.TheVariants as stage;
-ghost use Rattle.store_commands.specs.Serving.{IsReadyToServe};
-ghost use Rattle.node_requests.specs.Requests.{is_done_by_node};
+ghost use Rattle.store_commands.specs.Serving.{IsReadyToServe, LeavesSessionsBy};
+ghost use Rattle.node_requests.specs.Requests.{is_done_by_node, leaves_sessions};
 ghost use Rattle.node_service.specs.Lives.{shown_bytes};
 ghost use Rattle.node_life.specs.Inputs.{ReadsGiven};
+ghost use Rattle.node_life.specs.Leaving.{WordsLeave};
 ghost use Rattle.node_life.specs.Requests.{AnswersOr, AnswersRequest, AreStreams, HasDone};
 ghost use Rattle.node_life.specs.Requests.{HasDoneOver, StaysReady, bare};
 ghost use Rattle.node_life.specs.Requests.{is_enough, said_by, said_of};
@@ -76,7 +77,8 @@ impl<'a, C: Clients, H: Host> Node<H> for Holder<'a, C> {
 
 /// Answers the request of these words over a store that is ready, of whose input this is what was
 /// kept, at most so many bytes. After each answer but that of a fault of the disk, which ends the
-/// node, the store may be asked again.
+/// node, the store may be asked again; and its sessions and the host's links are as they were, unless
+/// the words ask for `compact` or `mailbox`.
 pub fn answer_request<H: Host, C: Clients>(
     alloc: Global,
     hasher: RandomState,
@@ -96,6 +98,8 @@ pub fn answer_request<H: Host, C: Clients>(
         → AnswersRequest H.tells (C.meaning clients.now) request host.old host.new result.came
         (shown_bytes result.shown out.new.bytes) result.ends }
     ensures ready { StaysReady (C.meaning clients.now) store.new (H.tells host.new) result }
+    ensures sessions { WordsLeave words.now → LeavesSessionsBy store.old store.new result.came }
+    ensures links { WordsLeave words.now → (H.tells host.new).links ≡ (H.tells host.old).links }
 {
     match command_of(alloc, words) {
         Ok(asked) => answer_command(
@@ -125,6 +129,10 @@ fn answer_command<H: Host, C: Clients>(
         → AnswersOr H.tells (C.meaning clients.now) (ReadsGiven request.size request.input) asked
         host.old host.new (said_by result out.new.bytes) }
     ensures ready { StaysReady (C.meaning clients.now) store.new (H.tells host.new) result }
+    ensures sessions { leaves_sessions asked ≡ true
+        → LeavesSessionsBy store.old store.new result.came }
+    ensures links { leaves_sessions asked ≡ true
+        → (H.tells host.new).links ≡ (H.tells host.old).links }
 {
     match size {
         InputSize::Failed => {
@@ -167,8 +175,10 @@ fn do_kept<H: Host, C: Clients>(
     requires within { IsCommandWithin asked }
     requires ready { IsReadyToServe (C.meaning clients.now) store.old (H.tells host.old) }
     requires empty { out.old.bytes ≡ [] }
-    ensures { HasDoneOver H.tells (C.meaning clients.now) kept.now asked host.old host.new store.new
+    ensures does { HasDoneOver H.tells (C.meaning clients.now) kept.now asked host.old host.new store.new
         result out.new.bytes }
+    ensures sessions { leaves_sessions asked ≡ true
+        → LeavesSessionsBy store.old store.new result.came }
 {
     match asked {
         Command::MailboxIn(contact) => {
@@ -195,9 +205,11 @@ fn do_command<H: Host, S: Source, C: Clients>(
     requires within { IsCommandWithin asked }
     requires ready { IsReadyToServe (C.meaning clients.now) store.old (H.tells host.old) }
     requires empty { out.old.bytes ≡ [] }
-    ensures { HasDone H.tells (C.meaning clients.now)
+    ensures does { HasDone H.tells (C.meaning clients.now)
         (AreStreams (S.tells input.old) (S.tells input.new)) asked host.old host.new store.new result
         out.new.bytes }
+    ensures sessions { leaves_sessions asked ≡ true
+        → LeavesSessionsBy store.old store.new result.came }
 {
     match asked {
         Command::Quit => goodbye(),
@@ -226,9 +238,11 @@ fn do_on_store<H: Host, S: Source, C: Clients>(
     requires done { is_done_by_node asked ≡ true }
     requires ready { IsReadyToServe (C.meaning clients.now) store.old (H.tells host.old) }
     requires empty { out.old.bytes ≡ [] }
-    ensures { HasDone H.tells (C.meaning clients.now)
+    ensures does { HasDone H.tells (C.meaning clients.now)
         (AreStreams (S.tells input.old) (S.tells input.new)) asked host.old host.new store.new result
         out.new.bytes }
+    ensures sessions { leaves_sessions asked ≡ true
+        → LeavesSessionsBy store.old store.new result.came }
 {
     match migrate_and_settle(store, host, clients) {
         Ok(()) => said(Outcome::of(obey(alloc, store, asked, host, input, out, clients))),

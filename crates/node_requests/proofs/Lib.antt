@@ -1,2 +1,2 @@
-mod Served
+pub mod Served
 mod Putting

@@ -3,6 +3,7 @@ use Rattle.std.proofs.Common.{◌≡◌, ℕ, Bool, true, false, cond, List, Opt
 use Rattle.std.proofs.Common.{ap, ◌∙◌, subst, inl}
 use Rattle.std.specs.Prelude.{◌||◌, ◌&&◌, nat_lt, Result, Ok, Err}
 use Rattle.std.specs.Prelude.{IsErrAnd}
+use Rattle.std.proofs.lemmas.Bool.{false≢true}
 use Rattle.outside.specs.Files.{File, Two, read_files}
 use Rattle.outside.specs.Frames.{generation_in, is_open, journal_file}
 use Rattle.outside.specs.Outside.{Outside}
@@ -27,7 +28,7 @@ use Rattle.store_commands.specs.Serving.{IsServed, ServesOn}
 use Rattle.store_commands.specs.Stopping.{NeverReads}
 use Rattle.store_commands.proofs.Stopped.{stops_memory}
 use Rattle.sharing_commands.specs.Sayings.{say_plan}
-use Rattle.node_requests.specs.Requests.{DoesRequest, group_named, speech_of}
+use Rattle.node_requests.specs.Requests.{DoesRequest, group_named, leaves_sessions, speech_of}
 
 -- what a command came to is what the words came to
 pub as_asked : (clients : Meaning) (asked is : Command) (old new : Outside)
@@ -56,6 +57,12 @@ module _ (clients : Meaning) (s : StoreValue) (o : Outside) where
             inl (stops_memory clients (λ f. plan_refusal (plan f)) NeverReads o o out out' was.run
             idle s was.rests was.facts tt);
       }
+
+-- a command that may change the sessions of the store is none that leaves them
+pub not_leaving : {P : Type 0} (asked is : Command) → asked ≡ is → leaves_sessions is ≡ false
+    → leaves_sessions asked ≡ true → P
+not_leaving asked is same may leaves =
+    absurd (false≢true (sym may ∙ ap leaves_sessions (sym same) ∙ leaves))
 
 -- ---- a store that is there
 

@@ -39,6 +39,14 @@ is_done_by_node command.Serve = false
 is_done_by_node command.Quit = false
 is_done_by_node _ = true
 
+-- a command leaves the sessions of the store as they were: not one that writes the journal anew, and not one that begins
+-- a session of its own, over a mailbox file
+abbrev pub leaves_sessions : Command → Bool
+leaves_sessions command.Compact = false
+leaves_sessions (command.MailboxIn contact) = false
+leaves_sessions (command.MailboxOut contact latency count) = false
+leaves_sessions _ = true
+
 -- the group that words describe
 abbrev pub group_named : (name : List ℕ) (major : ℕ) (descriptor : List ℕ) → GroupValue
 group_named name major descriptor = record { name = name; major = major; descriptor = descriptor }

@@ -5,7 +5,7 @@ ghost use Rattle.commands.specs.Reading.{IsDescriptor, IsName};
 ghost use Rattle.store_commands.specs.declared.commit.Settling.TheVariants as settling;
 ghost use Rattle.store_commands.specs.Entries.{HasAdded};
 ghost use Rattle.store_commands.specs.Plans.{group_plan};
-ghost use Rattle.store_commands.specs.Serving.{IsServed, ServesOn};
+ghost use Rattle.store_commands.specs.Serving.{IsServed, LeavesSessionsBy, ServesOn};
 ghost use Rattle.sharing_commands.specs.Sayings.{say_plan};
 ghost use Rattle.sync_words.specs.Outcomes.{came_to};
 ghost use Rattle.node_requests.specs.Requests.{group_named, speech_of};
@@ -38,6 +38,7 @@ pub(crate) fn add_named<D: Disk, W: Sink, C: Clients>(
         (D.tells disk.new) (W.tells out.old) (W.tells out.new) (came_to result) }
     ensures serves { ServesOn (C.meaning clients.now) store.new (D.tells disk.new)
         (came_to result) }
+    ensures sessions { LeavesSessionsBy store.old store.new (came_to result) }
 {
     let def = group_of(alloc, name, major, descriptor)?;
     add_group_loaded(alloc, store, def, disk, out, clients)
@@ -67,6 +68,7 @@ pub(crate) fn say_named<D: Disk, W: Sink, C: Clients>(
         (W.tells out.new) (came_to result) }
     ensures serves { ServesOn (C.meaning clients.now) store.new (D.tells disk.new)
         (came_to result) }
+    ensures sessions { LeavesSessionsBy store.old store.new (came_to result) }
 {
     let def = group_of(alloc, name, major, descriptor)?;
     let speech = Speech {

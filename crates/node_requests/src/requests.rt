@@ -1,10 +1,10 @@
 // A command that is done over a loaded store.
 ghost use Rattle.std.specs.Prelude.{◌≡◌, true};
 ghost use Rattle.commands.specs.Reading.{IsCommandWithin};
-ghost use Rattle.store_commands.specs.Serving.{IsServed, ServesOn};
+ghost use Rattle.store_commands.specs.Serving.{IsServed, LeavesSessionsBy, ServesOn};
 ghost use Rattle.sync_words.specs.Outcomes.{came_to};
 ghost use Rattle.node_service.specs.Outputs.{output_told};
-ghost use Rattle.node_requests.specs.Requests.{DoesRequest, is_done_by_node};
+ghost use Rattle.node_requests.specs.Requests.{DoesRequest, is_done_by_node, leaves_sessions};
 
 use crate::definitions::{add_named, say_named};
 use crate::listings::put_listing;
@@ -45,6 +45,8 @@ pub fn obey<H: Host, S: Source, C: Clients>(
         (came_to result) }
     ensures serves { ServesOn (C.meaning clients.now) store.new (H.tells host.new)
         (came_to result) }
+    ensures sessions { leaves_sessions asked ≡ true
+        → LeavesSessionsBy store.old store.new (came_to result) }
 {
     match asked {
         Command::Init => Err(Outcome::Exists),

@@ -4,6 +4,7 @@ mod Spoken
 mod Fronts
 mod Targets
 mod Wholes
+mod Leaving
 mod LastLevels
 mod WellSaid
 mod Standing

@@ -5,7 +5,7 @@ ghost use Rattle.sync_words.specs.Outcomes.{came_to};
 ghost use Rattle.store_commands.specs.Commit.{ExtendsBy};
 ghost use Rattle.store_commands.specs.Load.{MayExtend};
 ghost use Rattle.store_commands.specs.Running.{RunsErrand};
-ghost use Rattle.store_commands.specs.Serving.{IsServed, ServesOn, WasLoaded};
+ghost use Rattle.store_commands.specs.Serving.{IsServed, LeavesSessionsBy, ServesOn, WasLoaded};
 ghost use Rattle.store_commands.specs.Show.{PrintsText};
 ghost use Rattle.sharing_commands.specs.Adding.{AddsFront, GathersFor, GathersFront, KnowsContact};
 ghost use Rattle.sharing_commands.specs.Adding.{StaysGathering, StaysKnown};
@@ -63,6 +63,7 @@ pub fn agree_loaded<D: Disk, W: Sink, C: Clients>(
         (W.tells out.old) (W.tells out.new) (came_to result) }
     ensures serves { IsServed (C.meaning clients.now) store.old (D.tells disk.old)
         → ServesOn (C.meaning clients.now) store.new (D.tells disk.new) (came_to result) }
+    ensures sessions { LeavesSessionsBy store.old store.new (came_to result) }
 {
     if let Some(why) = agree_refusal(store, contact, group) {
         return Err(Outcome::Refused(why));
@@ -98,6 +99,7 @@ fn set_agreed<D: Disk, W: Sink, C: Clients>(
         (W.tells out.new) (came_to result) }
     ensures serves { IsServed (C.meaning clients.now) store.old (D.tells disk.old)
         → ServesOn (C.meaning clients.now) store.new (D.tells disk.new) (came_to result) }
+    ensures sessions { LeavesSessionsBy store.old store.new (came_to result) }
 {
     migrate_and_settle(store, disk, clients)?;
     // What every store keeps.

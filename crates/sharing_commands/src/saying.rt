@@ -5,7 +5,7 @@ ghost use Rattle.sync_words.specs.Outcomes.{came_to};
 ghost use Rattle.store_commands.specs.Entries.{HasAdded};
 ghost use Rattle.store_commands.specs.Load.{MayExtend};
 ghost use Rattle.store_commands.specs.Post.{IsPlanOfPost};
-ghost use Rattle.store_commands.specs.Serving.{IsServed, ServesOn, WasLoaded};
+ghost use Rattle.store_commands.specs.Serving.{IsServed, LeavesSessionsBy, ServesOn, WasLoaded};
 ghost use Rattle.sharing_commands.specs.Sayings.{message_said, say_plan, sharing_test};
 
 use crate::previous::previous_own;
@@ -69,6 +69,7 @@ pub fn say_loaded<D: Disk, W: Sink, C: Clients>(
         (came_to result) }
     ensures serves { IsServed (C.meaning clients.now) store.old (D.tells disk.old)
         → ServesOn (C.meaning clients.now) store.new (D.tells disk.new) (came_to result) }
+    ensures sessions { LeavesSessionsBy store.old store.new (came_to result) }
 {
     let post = plan_saying(alloc, store, clients, speech)?;
     let PlannedPost { message, id } = post;

@@ -10,6 +10,7 @@ pub mod EntryLemmas
 pub mod Commits
 pub mod Loads
 pub mod Serving
+pub mod Sessions
 pub mod Posts
 pub mod Begins
 pub mod Stood

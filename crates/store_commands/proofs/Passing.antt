@@ -19,7 +19,7 @@ use Rattle.sync_rules.specs.declared.states.Refused.{Refused}
 use Rattle.store_commands.specs.Plans.{EntryPlan, plan_of, refuses}
 use Rattle.store_commands.specs.Post.{HasPosted}
 use Rattle.store_commands.specs.Looking.{HasLooked}
-use Rattle.store_commands.specs.Serving.{ServesOn}
+use Rattle.store_commands.specs.Serving.{LeavesSessionsBy, ServesOn}
 use Rattle.store_commands.specs.Shown.{Showing}
 
 -- what holds of an outcome
@@ -78,6 +78,9 @@ module _ (r : Result (Unit {0}) Outcome) (x : Outcome) (is : IsErrAnd r (λ e. e
   pub serves_on : (clients : Meaning) (s : StoreValue) (o : Outside) → ServesOn clients s o x
       → ServesOn clients s o (came_to r)
   serves_on clients s o = passed (λ (came : Outcome). ServesOn clients s o came) r x is
+
+  pub leaves_on : (s s' : StoreValue) → LeavesSessionsBy s s' x → LeavesSessionsBy s s' (came_to r)
+  leaves_on s s' = passed (λ (came : Outcome). LeavesSessionsBy s s' came) r x is
 
   pub looked_on : (clients : Meaning) (shown : Facts → Showing) (o o' : Outside) (out out' : Stream)
       → HasLooked clients shown o o' out out' x

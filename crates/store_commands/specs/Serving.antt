@@ -1,6 +1,6 @@
 -- A store that stays loaded while commands come: what a command over it rests on, and what stands
 -- behind it.
-use Rattle.std.specs.Prelude.{◌≡◌, ◌⊎◌, true, List, [], ◌∷◌, Some, Result, Err}
+use Rattle.std.specs.Prelude.{◌≡◌, ◌⊎◌, Bool, true, false, List, [], ◌∷◌, Some, Result, Err}
 use Rattle.std.specs.List.{list_all}
 use Rattle.outside.specs.Disk.{RelatesTold}
 use Rattle.outside.specs.Files.{File, SyncsBoth, Two, read_files}
@@ -54,6 +54,24 @@ abbrev pub ServesOn : Meaning → StoreValue → Outside → Outcome → Type 0
 ServesOn clients s o outcome.DiskFault = Unit {0}
 ServesOn clients s o outcome.Memory = IsReadyToServe clients s o
 ServesOn clients s o _ = IsServed clients s o
+
+-- ---- the sessions of a store
+
+-- a call left the sessions of a store as they were
+pub record LeavesSessions (s s' : StoreValue) : Type 0 where
+  pub sessions : s'.state.facts.sessions ≡ s.state.facts.sessions
+  pub begun : s'.state.facts.begun ≡ s.state.facts.begun
+
+-- so whatever the outcome was, but for a fault of the disk
+abbrev pub LeavesSessionsBy : StoreValue → StoreValue → Outcome → Type 0
+LeavesSessionsBy s s' outcome.DiskFault = Unit {0}
+LeavesSessionsBy s s' _ = LeavesSessions s s'
+
+-- an entry begins no session, and says of none that it began
+abbrev pub begins_none : Entry → Bool
+begins_none (entry.Session s) = false
+begins_none (entry.Brief n) = false
+begins_none _ = true
 
 -- ---- a batch behind a settled journal
 

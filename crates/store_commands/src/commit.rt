@@ -1,6 +1,7 @@
 // A batch that is added to a store: before it the journal is migrated, where it is of format 1, and
 // settled. The store's answers are outcomes here; a store that is ready is not closed.
-ghost use Rattle.std.specs.Prelude.{◌≡◌, List, Some, false, IsErrOf, OnOk};
+ghost use Rattle.std.specs.Prelude.{◌≡◌, List, Some, false, true, IsErrOf, OnOk};
+ghost use Rattle.std.specs.List.{list_all};
 ghost use Rattle.outside.specs.declared.limits.TheConstants.{MAX_JOURNAL};
 ghost use Rattle.outside.specs.Files.{Two, File};
 ghost use Rattle.outside.specs.Outside.{DiskRun};
@@ -15,8 +16,9 @@ ghost use Rattle.sync_words.specs.Outcomes.{came_to};
 ghost use Rattle.store_commands.specs.Commit.{AddsAs, ExtendsBy, ExtendsTold, MayFollow};
 ghost use Rattle.store_commands.specs.Commit.{MigratesAs, SettlesAnew, SettlesAs, StoreStaysReady};
 ghost use Rattle.store_commands.specs.Load.{MayExtend};
-ghost use Rattle.store_commands.specs.Serving.{IsReadyToServe, IsServed, KeepsSettled, ServesOn};
-ghost use Rattle.store_commands.specs.Serving.{StaysSettled};
+ghost use Rattle.store_commands.specs.Serving.{IsReadyToServe, IsServed, LeavesSessionsBy};
+ghost use Rattle.store_commands.specs.Serving.{KeepsSettled, LeavesSessions, ServesOn, StaysSettled};
+ghost use Rattle.store_commands.specs.Serving.{begins_none};
 
 use outside::Disk;
 use sync_ids::MessageId;
@@ -58,6 +60,8 @@ pub fn extend<D: Disk, C: Clients>(
     ensures serves { IsServed (C.meaning clients.now) store.old (D.tells disk.old)
         → KeepsSettled settling batch
         → ServesOn (C.meaning clients.now) store.new (D.tells disk.new) (came_to result) }
+    ensures sessions { list_all begins_none batch ≡ true
+        → LeavesSessionsBy store.old store.new (came_to result) }
 {
     migrate_and_settle(store, disk, clients)?;
     match settling {
@@ -86,6 +90,7 @@ pub fn migrate_and_settle<D: Disk, C: Clients>(
         (D.tells disk.new).files) }
     ensures serves { store.old.limit ≡ MAX_JOURNAL
         → OnOk result (IsServed (C.meaning clients.now) store.new (D.tells disk.new)) }
+    ensures sessions { LeavesSessions store.old store.new }
 {
     migrate(store, disk, clients)?;
     settle_loaded(store, disk, clients)
@@ -129,6 +134,7 @@ pub fn settle_loaded<D: Disk, C: Clients>(
         (D.tells disk.new).files) }
     ensures serves { IsReadyToServe (C.meaning clients.now) store.old (D.tells disk.old)
         → ServesOn (C.meaning clients.now) store.new (D.tells disk.new) (came_to result) }
+    ensures sessions { LeavesSessions store.old store.new }
 {
     match store.settle(disk, clients) {
         Ok(()) => Ok(()),
@@ -159,6 +165,8 @@ fn commit<D: Disk, C: Clients>(
         result }
     ensures settled { IsSettled (C.meaning clients.now) store.old.state.facts
         → KeepsSettled Settling.Before batch → StaysSettled (C.meaning clients.now) store.new result }
+    ensures sessions { list_all begins_none batch ≡ true
+        → LeavesSessionsBy store.old store.new (came_to result) }
 {
     images_stand();
     // By which a group leaves a settled journal settled.
@@ -193,6 +201,8 @@ fn commit_settled<D: Disk, C: Clients>(
         result }
     ensures settled { IsSettled (C.meaning clients.now) store.old.state.facts
         → KeepsSettled Settling.BeforeAndAfter batch → StaysSettled (C.meaning clients.now) store.new result }
+    ensures sessions { list_all begins_none batch ≡ true
+        → LeavesSessionsBy store.old store.new (came_to result) }
 {
     match store.extend_known(disk, clients, batch, id) {
         Ok(()) => Ok(()),

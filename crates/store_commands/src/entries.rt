@@ -1,5 +1,5 @@
 // The commands that add one entry to a journal: `contact`, `group`, `share`.
-ghost use Rattle.std.specs.Prelude.{◌≡◌, ◌∷◌, [], ◌++◌, false, IfOk, OnOk};
+ghost use Rattle.std.specs.Prelude.{◌≡◌, ◌∷◌, [], ◌++◌, false, true, IfOk, OnOk};
 ghost use Rattle.std.specs.String.{string_bytes};
 ghost use Rattle.session_core.specs.Known.{IsIdOf, IsOfAll};
 ghost use Rattle.sync_ids.specs.Ids.{message_id_of};
@@ -9,7 +9,8 @@ ghost use Rattle.store_commands.specs.Commit.{MayFollow};
 ghost use Rattle.store_commands.specs.Entries.{EntryAdded, HasAdded};
 ghost use Rattle.store_commands.specs.Load.{MayExtend};
 ghost use Rattle.store_commands.specs.Plans.{contact_plan, group_plan, level_plan};
-ghost use Rattle.store_commands.specs.Serving.{IsServed, KeepsSettled, ServesOn, WasLoaded};
+ghost use Rattle.store_commands.specs.Serving.{IsServed, LeavesSessionsBy, KeepsSettled, ServesOn};
+ghost use Rattle.store_commands.specs.Serving.{WasLoaded, begins_none};
 ghost use Rattle.store_commands.specs.Shown.{added_text};
 
 use crate::commit::{Settling, extend};
@@ -55,6 +56,7 @@ pub fn add_contact_loaded<D: Disk, W: Sink, C: Clients>(
         (D.tells start) (D.tells disk.new) (W.tells out.old) (W.tells out.new) (came_to result) }
     ensures serves { IsServed (C.meaning clients.now) store.old (D.tells disk.old)
         → ServesOn (C.meaning clients.now) store.new (D.tells disk.new) (came_to result) }
+    ensures sessions { LeavesSessionsBy store.old store.new (came_to result) }
 {
     let entry = plan_contact(store)?;
     add_entry(
@@ -102,6 +104,7 @@ pub fn add_group_loaded<D: Disk, W: Sink, C: Clients>(
         (D.tells start) (D.tells disk.new) (W.tells out.old) (W.tells out.new) (came_to result) }
     ensures serves { IsServed (C.meaning clients.now) store.old (D.tells disk.old)
         → ServesOn (C.meaning clients.now) store.new (D.tells disk.new) (came_to result) }
+    ensures sessions { LeavesSessionsBy store.old store.new (came_to result) }
 {
     let entry = plan_group(store, clients, def)?;
     add_entry(
@@ -153,6 +156,7 @@ pub fn set_level_loaded<D: Disk, W: Sink, C: Clients>(
         (D.tells start) (D.tells disk.new) (W.tells out.old) (W.tells out.new) (came_to result) }
     ensures serves { IsServed (C.meaning clients.now) store.old (D.tells disk.old)
         → ServesOn (C.meaning clients.now) store.new (D.tells disk.new) (came_to result) }
+    ensures sessions { LeavesSessionsBy store.old store.new (came_to result) }
 {
     let entry = plan_level(store, contact, group, level)?;
     add_entry(
@@ -190,6 +194,8 @@ pub fn add_entry<D: Disk, W: Sink, C: Clients>(
     ensures serves { IsServed (C.meaning clients.now) store.old (D.tells disk.old)
         → KeepsSettled settling (entry ∷ [])
         → ServesOn (C.meaning clients.now) store.new (D.tells disk.new) (came_to result) }
+    ensures sessions { begins_none entry ≡ true
+        → LeavesSessionsBy store.old store.new (came_to result) }
 {
     // A name of its own, since the id goes with the batch too.
     let known = id;

@@ -3,7 +3,7 @@ ghost use Rattle.std.specs.Prelude.{◌≤◌};
 ghost use Rattle.sync_words.specs.Outcomes.{came_to};
 ghost use Rattle.store_commands.specs.Load.{MayExtend};
 ghost use Rattle.store_commands.specs.Post.{HasPosted, IsBodyRead};
-ghost use Rattle.store_commands.specs.Serving.{IsServed, ServesOn, WasLoaded};
+ghost use Rattle.store_commands.specs.Serving.{IsServed, LeavesSessionsBy, ServesOn, WasLoaded};
 
 use crate::commit::Settling;
 use crate::entries::add_entry;
@@ -60,6 +60,7 @@ pub fn post_loaded<D: Disk, S: Source, W: Sink, C: Clients>(
         (came_to result) }
     ensures serves { IsServed (C.meaning clients.now) store.old (D.tells disk.old)
         → ServesOn (C.meaning clients.now) store.new (D.tells disk.new) (came_to result) }
+    ensures sessions { LeavesSessionsBy store.old store.new (came_to result) }
 {
     if !store.state().knows_group(&group) {
         return Err(Outcome::Refused(Refused::UnknownGroup));

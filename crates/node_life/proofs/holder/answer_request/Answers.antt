@@ -3,6 +3,7 @@ use Rattle.node_service.specs.Lives.{shown_bytes}
 use Rattle.node_life.specs.Requests.{bare}
 use Rattle.node_life.proofs.AnswerLemmas.{request_done, request_unread, synced_stays}
 use Rattle.node_life.proofs.SettleLemmas.{stands_ready}
+use Rattle.node_life.proofs.LeaveLemmas.{asked_leaves, nothing_leaves}
 use Rattle.node_life.proofs.holder.answer_request.Goals as goal
 
 pub returns-in-Ok-clause-answered : goal.returns-in-Ok-clause-answered
@@ -27,3 +28,17 @@ returns-in-Err-clause-answered g c = λ request words keeps.
 
 pub returns-in-Err-clause-ready : goal.returns-in-Err-clause-ready
 returns-in-Err-clause-ready g c = inr c.requires.ready
+
+pub returns-in-Ok-clause-sessions : goal.returns-in-Ok-clause-sessions
+returns-in-Ok-clause-sessions g c leave =
+    c.answer_command.ensures.sessions
+    (asked_leaves c.args.words.now c.in-Ok.asked c.in-Ok.ensures.asked leave)
+
+pub returns-in-Err-clause-sessions : goal.returns-in-Err-clause-sessions
+returns-in-Err-clause-sessions g c leave =
+    nothing_leaves c.args.store.now _
+
+pub returns-in-Ok-clause-links : goal.returns-in-Ok-clause-links
+returns-in-Ok-clause-links g c leave =
+    c.answer_command.ensures.links
+    (asked_leaves c.args.words.now c.in-Ok.asked c.in-Ok.ensures.asked leave)

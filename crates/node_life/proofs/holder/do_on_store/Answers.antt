@@ -5,13 +5,15 @@ use Rattle.node_service.specs.Outputs.{output_told}
 use Rattle.node_life.specs.Requests.{said_by, said_of}
 use Rattle.node_life.proofs.AnswerLemmas.{on_store, said_done, served_stays, unsettled_stays}
 use Rattle.node_life.proofs.SettleLemmas.{not_settled, settles_ready, stays_ready}
+use Rattle.store_commands.proofs.Sessions.{leaves_behind, leaves_by}
+use Rattle.node_life.proofs.LeaveLemmas.{said_leaves}
 use Rattle.node_life.proofs.holder.do_on_store.Goals as goal
 
 pub obey-requires-clause-served : goal.obey-requires-clause-served
 obey-requires-clause-served g c = c.in-Ok.ensures.serves c.requires.ready.loaded.opened.limited
 
-pub returns-in-Ok : goal.returns-in-Ok
-returns-in-Ok g c =
+pub returns-in-Ok-clause-does : goal.returns-in-Ok-clause-does
+returns-in-Ok-clause-does g c =
     let clients = g.C.Clients.meaning c.args.clients.now in
     let e = c.in-Ok.ensures in
     let out = c.obey.new.out.bytes in
@@ -32,8 +34,8 @@ returns-in-Ok g c =
           (c.said.ensures out ∙ ap (λ (o : Outcome). said_of o out) c.of.ensures) c.obey.ensures.serves;
     }
 
-pub returns-in-Err : goal.returns-in-Err
-returns-in-Err g c =
+pub returns-in-Err-clause-does : goal.returns-in-Err-clause-does
+returns-in-Err-clause-does g c =
     let clients = g.C.Clients.meaning c.args.clients.now in
     let e = c.in-Err.ensures in
     let out = c.args.out.now.bytes in
@@ -58,3 +60,20 @@ returns-in-Err g c =
           (stays_ready clients c.args.store.now c.migrate_and_settle.new.store _ _ c.in-Err.came
           c.requires.ready e.settled e.stays);
     }
+
+pub returns-in-Ok-clause-sessions : goal.returns-in-Ok-clause-sessions
+returns-in-Ok-clause-sessions g c leaves =
+    let s = c.args.store.now in
+    let out = c.obey.new.out.bytes in
+    said_leaves s c.obey.new.store c.said.result out (came_to c.obey.result)
+    (c.said.ensures out ∙ ap (λ (o : Outcome). said_of o out) c.of.ensures)
+    (leaves_behind s c.migrate_and_settle.new.store c.obey.new.store (came_to c.obey.result)
+    c.in-Ok.ensures.sessions (c.obey.ensures.sessions leaves))
+
+pub returns-in-Err-clause-sessions : goal.returns-in-Err-clause-sessions
+returns-in-Err-clause-sessions g c leaves =
+    let s = c.args.store.now in
+    let s1 = c.migrate_and_settle.new.store in
+    let out = c.args.out.now.bytes in
+    said_leaves s s1 c.said-in-Err.result out c.in-Err.came (c.said-in-Err.ensures out)
+    (leaves_by s s1 c.in-Err.came c.in-Err.ensures.sessions)

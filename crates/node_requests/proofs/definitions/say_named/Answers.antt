@@ -6,10 +6,11 @@ use Rattle.sync_rules.specs.Facts.{Facts}
 use Rattle.sync_words.specs.Outcomes.{came_to}
 use Rattle.store_commands.specs.Entries.{HasAdded}
 use Rattle.store_commands.specs.Plans.{EntryPlan}
-use Rattle.store_commands.proofs.Passing.{added_on, serves_on}
+use Rattle.store_commands.proofs.Passing.{added_on, leaves_on, serves_on}
 use Rattle.sharing_commands.specs.Sayings.{say_plan}
 use Rattle.node_requests.specs.Requests.{group_named, speech_of}
 use Rattle.node_requests.proofs.Served.{memory_added}
+use Rattle.store_commands.proofs.Sessions.{leaves_itself}
 use Rattle.node_requests.proofs.definitions.say_named.Goals as goal
 
 pub returns-in_err-def-clause-said : goal.returns-in_err-def-clause-said
@@ -40,3 +41,8 @@ returns-clause-said g c =
 
 pub returns-clause-serves : goal.returns-clause-serves
 returns-clause-serves g c = c.say_loaded.ensures.serves c.requires.served
+
+pub returns-in_err-def-clause-sessions : goal.returns-in_err-def-clause-sessions
+returns-in_err-def-clause-sessions g c =
+    leaves_on c.from_residual.result outcome.Memory c.from_residual.ensures.1 c.args.store.now
+    c.args.store.now (leaves_itself c.args.store.now)

@@ -1,6 +1,8 @@
 use Rattle.std.proofs.Common.{refl}
 use Rattle.commands.specs.declared.command.Command.TheVariants as command
-use Rattle.node_requests.proofs.Served.{as_asked, begun_served, group_added, still_serves, word_said}
+use Rattle.node_requests.proofs.Served.{as_asked, begun_served, group_added, not_leaving}
+use Rattle.node_requests.proofs.Served.{still_serves, word_said}
+use Rattle.store_commands.proofs.Sessions.{leaves_by, leaves_itself}
 use Rattle.node_requests.proofs.requests.obey.Goals as goal
 
 pub returns-in-Init-clause-does : goal.returns-in-Init-clause-does
@@ -206,3 +208,71 @@ returns-in-Tree-clause-serves g c =
 pub print_tree_loaded-requires : goal.print_tree_loaded-requires
 print_tree_loaded-requires g c =
     (g.C.Clients.meaning c.args.clients.now, c.requires.served.ready.loaded.opened.ready.knows)
+
+pub returns-in-Init-clause-sessions : goal.returns-in-Init-clause-sessions
+returns-in-Init-clause-sessions g c leaves =
+    leaves_itself c.args.store.now
+
+pub returns-in-Show-clause-sessions : goal.returns-in-Show-clause-sessions
+returns-in-Show-clause-sessions g c leaves =
+    leaves_by c.args.store.now c.args.store.now _ (leaves_itself c.args.store.now)
+
+pub returns-in-Inbox-clause-sessions : goal.returns-in-Inbox-clause-sessions
+returns-in-Inbox-clause-sessions g c leaves =
+    leaves_by c.args.store.now c.args.store.now _ (leaves_itself c.args.store.now)
+
+pub returns-in-InboxFrom-clause-sessions : goal.returns-in-InboxFrom-clause-sessions
+returns-in-InboxFrom-clause-sessions g c leaves =
+    leaves_by c.args.store.now c.args.store.now _ (leaves_itself c.args.store.now)
+
+pub returns-in-Body-clause-sessions : goal.returns-in-Body-clause-sessions
+returns-in-Body-clause-sessions g c leaves =
+    leaves_by c.args.store.now c.args.store.now _ (leaves_itself c.args.store.now)
+
+pub returns-in-Status-clause-sessions : goal.returns-in-Status-clause-sessions
+returns-in-Status-clause-sessions g c leaves =
+    leaves_by c.args.store.now c.args.store.now _ (leaves_itself c.args.store.now)
+
+pub returns-in-Tree-clause-sessions : goal.returns-in-Tree-clause-sessions
+returns-in-Tree-clause-sessions g c leaves =
+    leaves_by c.args.store.now c.args.store.now _ (leaves_itself c.args.store.now)
+
+pub returns-in-Audit-clause-sessions : goal.returns-in-Audit-clause-sessions
+returns-in-Audit-clause-sessions g c leaves =
+    leaves_by c.args.store.now c.args.store.now _ (leaves_itself c.args.store.now)
+
+pub returns-in-Contact-clause-sessions : goal.returns-in-Contact-clause-sessions
+returns-in-Contact-clause-sessions g c leaves =
+    c.add_contact_loaded.ensures.sessions
+
+pub returns-in-Group-clause-sessions : goal.returns-in-Group-clause-sessions
+returns-in-Group-clause-sessions g c leaves =
+    c.add_named.ensures.sessions
+
+pub returns-in-Share-clause-sessions : goal.returns-in-Share-clause-sessions
+returns-in-Share-clause-sessions g c leaves =
+    c.set_level_loaded.ensures.sessions
+
+pub returns-in-Post-clause-sessions : goal.returns-in-Post-clause-sessions
+returns-in-Post-clause-sessions g c leaves =
+    c.post_loaded.ensures.sessions
+
+pub returns-in-Say-clause-sessions : goal.returns-in-Say-clause-sessions
+returns-in-Say-clause-sessions g c leaves =
+    c.say_named.ensures.sessions
+
+pub returns-in-Agree-clause-sessions : goal.returns-in-Agree-clause-sessions
+returns-in-Agree-clause-sessions g c leaves =
+    c.agree_loaded.ensures.sessions
+
+pub returns-in-Compact-clause-sessions : goal.returns-in-Compact-clause-sessions
+returns-in-Compact-clause-sessions g c leaves =
+    not_leaving c.args.asked command.Compact c.in-Compact.is refl leaves
+
+pub returns-in-MailboxIn-clause-sessions : goal.returns-in-MailboxIn-clause-sessions
+returns-in-MailboxIn-clause-sessions g c leaves =
+    not_leaving c.args.asked (command.MailboxIn c.in-MailboxIn.contact) c.in-MailboxIn.is refl leaves
+
+pub returns-in-MailboxOut-clause-sessions : goal.returns-in-MailboxOut-clause-sessions
+returns-in-MailboxOut-clause-sessions g c leaves =
+    not_leaving c.args.asked (command.MailboxOut c.in-MailboxOut.contact c.in-MailboxOut.latency c.in-MailboxOut.count) c.in-MailboxOut.is refl leaves

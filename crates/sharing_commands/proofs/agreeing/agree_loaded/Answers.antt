@@ -1,5 +1,6 @@
 use Rattle.std.proofs.Common.{refl, sym, ◌∙◌}
 use Rattle.sharing_commands.proofs.Wholes.{agreed_loaded, agreed_refused}
+use Rattle.store_commands.proofs.Sessions.{leaves_itself}
 use Rattle.sharing_commands.proofs.agreeing.agree_loaded.Goals as goal
 
 pub returns-in-Some-clause-agreed : goal.returns-in-Some-clause-agreed
@@ -15,3 +16,7 @@ returns-clause-agreed g c start was =
     agreed_loaded clients c.args.contact c.args.group.now _ _ _ _ _ c.args.store.now _
     was.run was.rests was.opened (sym c.agree_refusal.ensures ∙ c.in_default.is)
     c.set_agreed.ensures.ran
+
+pub returns-in-Some-clause-sessions : goal.returns-in-Some-clause-sessions
+returns-in-Some-clause-sessions g c =
+    leaves_itself c.args.store.now

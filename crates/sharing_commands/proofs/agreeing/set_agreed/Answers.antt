@@ -5,10 +5,12 @@ use Rattle.store_commands.proofs.Errands.{errand_on, errand_stopped, errand_unse
 use Rattle.sharing_commands.specs.Agreeing.{agreement}
 use Rattle.sharing_commands.specs.Agreement.{agreed_text}
 use Rattle.sharing_commands.proofs.Wholes.{agreement_done, agreement_printed, still_known}
-use Rattle.store_commands.proofs.Passing.{serves_on}
+use Rattle.store_commands.proofs.Passing.{leaves_on, serves_on}
 use Rattle.store_commands.proofs.Serving.{anew_stays_so, serves_by, serves_printed}
 use Rattle.sync_store.specs.Store.{format_meant}
 use Rattle.sharing_commands.proofs.Standing.{serves_known}
+use Rattle.store_commands.proofs.Sessions.{leaves_behind, leaves_by, leaves_then}
+use Rattle.sharing_commands.proofs.Leaving.{agreed_leaves}
 use Rattle.sharing_commands.proofs.agreeing.set_agreed.Goals as goal
 
 pub returns-in_err-migrate_and_settle-clause-ran : goal.returns-in_err-migrate_and_settle-clause-ran
@@ -109,3 +111,30 @@ returns-clause-serves g c served =
     (serves_known clients s2 (g.D.Disk.tells c.migrate_and_settle.new.disk) o2 c.args.contact
     (Ok tt) (e.adds.adds.comes.runs.limit ∙ settled.comes.limit ∙ c.requires.ready.limited)
     (ap format_meant e.adds.adds.comes.runs.format ∙ settled.answer.2) e.stands e.by) c.print_text.ensures
+
+pub returns-in_err-migrate_and_settle-clause-sessions : goal.returns-in_err-migrate_and_settle-clause-sessions
+returns-in_err-migrate_and_settle-clause-sessions g c =
+    let came = c.in_err-migrate_and_settle.field-0.0 in
+    let s1 = c.migrate_and_settle.new.store in
+    leaves_on c.from_residual.result came c.from_residual.ensures.1 c.args.store.now s1
+    (leaves_by c.args.store.now s1 came c.in_err-migrate_and_settle.ensures.sessions)
+
+pub returns-in_err-add_agreed-clause-sessions : goal.returns-in_err-add_agreed-clause-sessions
+returns-in_err-add_agreed-clause-sessions g c =
+    let came = c.in_err-add_agreed.field-0.0 in
+    let s1 = c.migrate_and_settle.new.store in
+    let s2 = c.add_agreed.new.store in
+    leaves_on c.from_residual-in_err-add_agreed.result came
+    c.from_residual-in_err-add_agreed.ensures.1 c.args.store.now s2
+    (leaves_behind c.args.store.now s1 s2 came c.in_ok-migrate_and_settle.ensures.sessions
+    (agreed_leaves (g.C.Clients.meaning c.args.clients.now) c.args.contact c.args.group.now s1 s2 _ _
+    (Err came) c.in_err-add_agreed.ensures.adds))
+
+pub returns-clause-sessions : goal.returns-clause-sessions
+returns-clause-sessions g c =
+    let s1 = c.migrate_and_settle.new.store in
+    let s2 = c.add_agreed.new.store in
+    leaves_by c.args.store.now s2 (came_to c.print_text.result)
+    (leaves_then c.args.store.now s1 s2 c.in_ok-migrate_and_settle.ensures.sessions
+    (agreed_leaves (g.C.Clients.meaning c.args.clients.now) c.args.contact c.args.group.now s1 s2 _ _
+    (Ok tt) c.in_ok-add_agreed.ensures.adds))

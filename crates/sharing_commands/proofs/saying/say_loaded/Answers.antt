@@ -2,10 +2,11 @@ use Rattle.std.proofs.Common.{refl}
 use Rattle.sync_rules.specs.declared.entries.Entry.TheVariants as entry
 use Rattle.store_commands.specs.declared.commit.Settling.TheVariants as settling
 use Rattle.store_commands.proofs.EntryLemmas.{added_entry}
-use Rattle.store_commands.proofs.Passing.{added_on, serves_on}
+use Rattle.store_commands.proofs.Passing.{added_on, leaves_on, serves_on}
 use Rattle.store_commands.proofs.Serving.{serves_unplanned}
 use Rattle.sharing_commands.specs.Sayings.{say_plan}
 use Rattle.sharing_commands.proofs.Said.{said_fault, say_follows}
+use Rattle.store_commands.proofs.Sessions.{leaves_by, leaves_itself}
 use Rattle.sharing_commands.proofs.saying.say_loaded.Goals as goal
 
 pub returns-in_err-post-clause-said : goal.returns-in_err-post-clause-said
@@ -54,3 +55,14 @@ returns-in_err-post-clause-serves g c served =
 
 pub returns-clause-serves : goal.returns-clause-serves
 returns-clause-serves g c served = c.add_entry.ensures.serves served tt
+
+pub returns-in_err-post-clause-sessions : goal.returns-in_err-post-clause-sessions
+returns-in_err-post-clause-sessions g c =
+    let came = c.in_err-post.field-0.0 in
+    let s = c.args.store.now in
+    leaves_on c.from_residual.result came c.from_residual.ensures.1 s s
+    (leaves_by s s came (leaves_itself s))
+
+pub returns-clause-sessions : goal.returns-clause-sessions
+returns-clause-sessions g c =
+    c.add_entry.ensures.sessions refl

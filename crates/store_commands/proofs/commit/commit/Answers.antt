@@ -7,6 +7,7 @@ use Rattle.sync_store.specs.declared.fault.StoreFault.TheVariants as fault
 use Rattle.sync_store.proofs.Runs.{runs_commit}
 use Rattle.store_commands.proofs.Adds.{one_whole}
 use Rattle.store_commands.proofs.Serving.{kept_settled}
+use Rattle.store_commands.proofs.Sessions.{batch_leaves, leaves_at, leaves_kept}
 use Rattle.store_commands.proofs.commit.commit.Goals as goal
 
 pub returns-in-Ok-clause-added : goal.returns-in-Ok-clause-added
@@ -128,3 +129,18 @@ pub returns-in-Err-Memory-clause-stays : goal.returns-in-Err-Memory-clause-stays
 returns-in-Err-Memory-clause-stays g c =
     let answer = rw c.in-Err-Memory.field-0-is at c.in-Err-Memory.ensures.answer in
     c.in-Err-Memory.ensures.ready (answer.2.closed ∙ answer.0)
+
+pub returns-in-Ok-clause-sessions : goal.returns-in-Ok-clause-sessions
+returns-in-Ok-clause-sessions g c none =
+    leaves_at c.args.store.now c.commit_known.new.self _ c.in-Ok.ensures.answer.2.facts
+    (batch_leaves c.args.store.now.state.facts c.args.batch none)
+
+pub returns-in-Err-Full-clause-sessions : goal.returns-in-Err-Full-clause-sessions
+returns-in-Err-Full-clause-sessions g c none =
+    let answer = rw c.in-Err-Full.field-0-is at c.in-Err-Full.ensures.answer in
+    leaves_kept c.args.store.now c.commit_known.new.self answer.2.facts
+
+pub returns-in-Err-Memory-clause-sessions : goal.returns-in-Err-Memory-clause-sessions
+returns-in-Err-Memory-clause-sessions g c none =
+    let answer = rw c.in-Err-Memory.field-0-is at c.in-Err-Memory.ensures.answer in
+    leaves_kept c.args.store.now c.commit_known.new.self answer.2.facts

@@ -2,6 +2,7 @@ use Rattle.std.proofs.Common.{refl, ◌∙◌, subst, sym}
 use Rattle.sync_rules.specs.Facts.{Facts}
 use Rattle.sync_rules.specs.Steps.{IsSettled}
 use Rattle.store_commands.proofs.Adds.{extended_whole}
+use Rattle.store_commands.proofs.Sessions.{adding_leaves, leaves_at, leaves_kept}
 use Rattle.store_commands.proofs.commit.commit_settled.Goals as goal
 
 pub returns-in-Ok-clause-added : goal.returns-in-Ok-clause-added
@@ -92,3 +93,24 @@ returns-in-Err-Memory-clause-stays g c =
     let has = c.in-Err-Memory.ensures.extended c.requires.ready.still_open in
     let answer = rw c.in-Err-Memory.field-0-is at has.answer in
     c.in-Err-Memory.ensures.ready answer.0
+
+pub returns-in-Ok-clause-sessions : goal.returns-in-Ok-clause-sessions
+returns-in-Ok-clause-sessions g c none =
+    let has = c.in-Ok.ensures.extended c.requires.ready.still_open in
+    leaves_at c.args.store.now c.extend_known.new.self _ (has.runs.facts has.answer.0)
+    (adding_leaves (g.C.Clients.meaning c.args.clients.now) c.args.store.now.state.facts
+    c.args.batch has.more none has.adds)
+
+pub returns-in-Err-Full-clause-sessions : goal.returns-in-Err-Full-clause-sessions
+returns-in-Err-Full-clause-sessions g c none =
+    let has = c.in-Err-Full.ensures.extended c.requires.ready.still_open in
+    let answer = rw c.in-Err-Full.field-0-is at has.answer in
+    leaves_kept c.args.store.now c.extend_known.new.self answer.2.facts
+
+pub returns-in-Err-Memory-clause-sessions : goal.returns-in-Err-Memory-clause-sessions
+returns-in-Err-Memory-clause-sessions g c none =
+    let has = c.in-Err-Memory.ensures.extended c.requires.ready.still_open in
+    let answer = rw c.in-Err-Memory.field-0-is at has.answer in
+    leaves_at c.args.store.now c.extend_known.new.self _ (has.runs.facts answer.0)
+    (adding_leaves (g.C.Clients.meaning c.args.clients.now) c.args.store.now.state.facts
+    c.args.batch has.more none has.adds)

@@ -5,8 +5,10 @@ use Rattle.store_commands.specs.declared.commit.Settling.{Settling}
 use Rattle.store_commands.specs.declared.commit.Settling.TheVariants as settling
 use Rattle.store_commands.specs.Serving.{KeepsSettled}
 use Rattle.store_commands.proofs.Adds.{adds, caused_later, follows_settled, settles_only}
-use Rattle.store_commands.proofs.Passing.{by_on, serves_on, told_on_error}
+use Rattle.store_commands.proofs.Passing.{by_on, leaves_on, serves_on, told_on_error}
 use Rattle.store_commands.proofs.Serving.{anew_stays_so, serves_by}
+use Rattle.store_commands.proofs.Sessions.{leaves_behind, leaves_by}
+use Rattle.sync_words.specs.Outcomes.{came_to}
 use Rattle.store_commands.proofs.commit.extend.Goals as goal
 
 pub returns-in_err-migrate_and_settle-clause-told : goal.returns-in_err-migrate_and_settle-clause-told
@@ -110,3 +112,22 @@ returns-in-BeforeAndAfter-clause-run g c =
     run_then (g.D.Disk.tells c.args.disk.now) (g.D.Disk.tells c.migrate_and_settle.new.disk)
     (g.D.Disk.tells c.commit_settled.new.disk) c.in_ok-migrate_and_settle.ensures.run
     c.commit_settled.ensures.run
+
+pub returns-in_err-migrate_and_settle-clause-sessions : goal.returns-in_err-migrate_and_settle-clause-sessions
+returns-in_err-migrate_and_settle-clause-sessions g c none =
+    let came = c.in_err-migrate_and_settle.field-0.0 in
+    let s1 = c.migrate_and_settle.new.store in
+    leaves_on c.from_residual.result came c.from_residual.ensures.1 c.args.store.now s1
+    (leaves_by c.args.store.now s1 came c.in_err-migrate_and_settle.ensures.sessions)
+
+pub returns-in-Before-clause-sessions : goal.returns-in-Before-clause-sessions
+returns-in-Before-clause-sessions g c none =
+    leaves_behind c.args.store.now c.migrate_and_settle.new.store c.commit.new.store
+    (came_to c.commit.result) c.in_ok-migrate_and_settle.ensures.sessions
+    (c.commit.ensures.sessions none)
+
+pub returns-in-BeforeAndAfter-clause-sessions : goal.returns-in-BeforeAndAfter-clause-sessions
+returns-in-BeforeAndAfter-clause-sessions g c none =
+    leaves_behind c.args.store.now c.migrate_and_settle.new.store c.commit_settled.new.store
+    (came_to c.commit_settled.result) c.in_ok-migrate_and_settle.ensures.sessions
+    (c.commit_settled.ensures.sessions none)

@@ -4,6 +4,7 @@ use Rattle.store_commands.proofs.Migrates.{comes_settled, migrated_anew_err, set
 use Rattle.store_commands.proofs.Migrates.{settled_unfull}
 use Rattle.store_commands.proofs.Passing.{anew_on, by_on, full_on, ready_on}
 use Rattle.store_commands.proofs.Serving.{served_ok}
+use Rattle.store_commands.proofs.Sessions.{leaves_at, leaves_then, settling_leaves}
 use Rattle.store_commands.proofs.commit.migrate_and_settle.Goals as goal
 
 pub returns-in_err-migrate-clause-by : goal.returns-in_err-migrate-clause-by
@@ -81,3 +82,18 @@ returns-clause-serves g c limit =
     (settled.comes.limit ∙ migrated.comes.limit ∙ limit) c.settle_loaded.ensures.stays
     (settled_anew clients s s1 s2 _ c.settle_loaded.result migrated.answer settled.comes.format
     settled.comes.generation settled.comes.file settled.answer)
+
+pub returns-in_err-migrate-clause-sessions : goal.returns-in_err-migrate-clause-sessions
+returns-in_err-migrate-clause-sessions g c =
+    let comes = c.in_err-migrate.ensures.migrated.comes in
+    leaves_at c.args.store.now c.migrate.new.store _ comes.facts
+    (settling_leaves (g.C.Clients.meaning c.args.clients.now) c.args.store.now.state.facts []
+    comes.settling)
+
+pub returns-clause-sessions : goal.returns-clause-sessions
+returns-clause-sessions g c =
+    let comes = c.in_ok-migrate.ensures.migrated.comes in
+    leaves_then c.args.store.now c.migrate.new.store c.settle_loaded.new.store
+    (leaves_at c.args.store.now c.migrate.new.store _ comes.facts
+    (settling_leaves (g.C.Clients.meaning c.args.clients.now) c.args.store.now.state.facts []
+    comes.settling)) c.settle_loaded.ensures.sessions

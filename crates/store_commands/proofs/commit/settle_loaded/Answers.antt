@@ -1,6 +1,7 @@
 use Rattle.std.proofs.Common.{refl, ap, ◌∙◌}
 use Rattle.sync_store.specs.Store.{format_meant}
 use Rattle.store_commands.proofs.Serving.{ready_now, served_now}
+use Rattle.store_commands.proofs.Sessions.{leaves_at, settling_leaves}
 use Rattle.store_commands.proofs.commit.settle_loaded.Goals as goal
 
 pub returns-in-Ok-clause-settled : goal.returns-in-Ok-clause-settled
@@ -41,3 +42,24 @@ returns-in-Err-Memory-clause-serves g c was =
     ready_now (g.C.Clients.meaning c.args.clients.now) c.settle.new.self
     (g.D.Disk.tells c.settle.new.disk) (c.in-Err-Memory.ensures.ready has.answer)
     (has.comes.limit ∙ was.loaded.opened.limited) (ap format_meant has.comes.format ∙ was.short)
+
+pub returns-in-Ok-clause-sessions : goal.returns-in-Ok-clause-sessions
+returns-in-Ok-clause-sessions g c =
+    let has = c.in-Ok.ensures.settled c.requires.ready.still_open in
+    leaves_at c.args.store.now c.settle.new.self _ has.comes.facts
+    (settling_leaves (g.C.Clients.meaning c.args.clients.now) c.args.store.now.state.facts has.more
+    has.comes.settling)
+
+pub returns-in-Err-Memory-clause-sessions : goal.returns-in-Err-Memory-clause-sessions
+returns-in-Err-Memory-clause-sessions g c =
+    let has = c.in-Err-Memory.ensures.settled c.requires.ready.still_open in
+    leaves_at c.args.store.now c.settle.new.self _ has.comes.facts
+    (settling_leaves (g.C.Clients.meaning c.args.clients.now) c.args.store.now.state.facts has.more
+    has.comes.settling)
+
+pub returns-in-Err-DiskFault-clause-sessions : goal.returns-in-Err-DiskFault-clause-sessions
+returns-in-Err-DiskFault-clause-sessions g c =
+    let has = c.in-Err-DiskFault.ensures.settled c.requires.ready.still_open in
+    leaves_at c.args.store.now c.settle.new.self _ has.comes.facts
+    (settling_leaves (g.C.Clients.meaning c.args.clients.now) c.args.store.now.state.facts has.more
+    has.comes.settling)

@@ -5,8 +5,9 @@ use Rattle.store_commands.specs.declared.commit.Settling.TheVariants as settling
 use Rattle.store_commands.specs.Plans.{contact_plan}
 use Rattle.store_commands.proofs.EntryLemmas.{added_entry, added_refused}
 use Rattle.store_commands.proofs.Follow.{contact_follows}
-use Rattle.store_commands.proofs.Passing.{added_on, serves_on}
+use Rattle.store_commands.proofs.Passing.{added_on, leaves_on, serves_on}
 use Rattle.store_commands.proofs.Serving.{contact_keeps}
+use Rattle.store_commands.proofs.Sessions.{contact_begins_none, leaves_itself}
 use Rattle.store_commands.proofs.entries.add_contact_loaded.Goals as goal
 
 pub returns-in_err-entry-clause-added : goal.returns-in_err-entry-clause-added
@@ -60,4 +61,15 @@ returns-clause-serves g c served =
     let clients = g.C.Clients.meaning c.args.clients.now in
     c.add_entry.ensures.serves served
     (contact_keeps c.args.store.now.state.facts c.in_ok-entry.entry
+    c.in_ok-entry.ensures)
+
+pub returns-in_err-entry-clause-sessions : goal.returns-in_err-entry-clause-sessions
+returns-in_err-entry-clause-sessions g c =
+    leaves_on c.from_residual.result (outcome.Refused c.in_err-entry.field-0.0)
+    c.from_residual.ensures.1 c.args.store.now c.args.store.now (leaves_itself c.args.store.now)
+
+pub returns-clause-sessions : goal.returns-clause-sessions
+returns-clause-sessions g c =
+    c.add_entry.ensures.sessions
+    (contact_begins_none c.args.store.now.state.facts c.in_ok-entry.entry
     c.in_ok-entry.ensures)

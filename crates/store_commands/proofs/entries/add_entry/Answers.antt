@@ -1,12 +1,14 @@
-use Rattle.std.proofs.Common.{List, refl, subst, sym, ◌∙◌}
+use Rattle.std.proofs.Common.{◌≡◌, true, List, refl, subst, sym, ◌∙◌}
+use Rattle.std.specs.List.{list_all}
 use Rattle.session_core.specs.Known.{IsOfAll}
 use Rattle.sync_rules.specs.declared.entries.Entry.{Entry}
 use Rattle.sync_words.specs.declared.outcome.Outcome.TheVariants as outcome
 use Rattle.sync_words.specs.Outcomes.{came_to}
-use Rattle.store_commands.specs.Serving.{KeepsSettled}
+use Rattle.store_commands.specs.Serving.{KeepsSettled, begins_none}
 use Rattle.store_commands.proofs.Commits.{entry_failed, entry_none, entry_printed}
-use Rattle.store_commands.proofs.Passing.{entry_on, serves_on}
+use Rattle.store_commands.proofs.Passing.{entry_on, leaves_on, serves_on}
 use Rattle.store_commands.proofs.Serving.{serves_printed}
+use Rattle.store_commands.proofs.Sessions.{alone_begins_none, leaves_by, leaves_itself}
 use Rattle.store_commands.proofs.entries.add_entry.Goals as goal
 
 pub returns-in_err-line-clause-added : goal.returns-in_err-line-clause-added
@@ -77,3 +79,29 @@ returns-clause-serves g c served keeps =
 pub extend-requires-clause-named : goal.extend-requires-clause-named
 extend-requires-clause-named g c =
     subst (λ (b : List Entry). IsOfAll c.args.id b) (sym c.in_ok-batch.ensures) c.requires.named
+
+pub returns-in_err-line-clause-sessions : goal.returns-in_err-line-clause-sessions
+returns-in_err-line-clause-sessions g c none =
+    leaves_on c.from_residual.result outcome.Memory c.from_residual.ensures.1 c.args.store.now
+    c.args.store.now (leaves_itself c.args.store.now)
+
+pub returns-in_err-batch-clause-sessions : goal.returns-in_err-batch-clause-sessions
+returns-in_err-batch-clause-sessions g c none =
+    leaves_on c.from_residual-in_err-batch.result outcome.Memory
+    c.from_residual-in_err-batch.ensures.1 c.args.store.now c.args.store.now
+    (leaves_itself c.args.store.now)
+
+pub returns-in_err-extend-clause-sessions : goal.returns-in_err-extend-clause-sessions
+returns-in_err-extend-clause-sessions g c none =
+    leaves_on c.from_residual-in_err-extend.result c.in_err-extend.field-0.0
+    c.from_residual-in_err-extend.ensures.1 c.args.store.now c.extend.new.store
+    (c.in_err-extend.ensures.sessions
+    (subst (λ (b : List Entry). list_all begins_none b ≡ true) (sym c.in_ok-batch.ensures)
+    (alone_begins_none c.args.entry none)))
+
+pub returns-clause-sessions : goal.returns-clause-sessions
+returns-clause-sessions g c none =
+    leaves_by c.args.store.now c.extend.new.store (came_to c.print_bytes.result)
+    (c.in_ok-extend.ensures.sessions
+    (subst (λ (b : List Entry). list_all begins_none b ≡ true) (sym c.in_ok-batch.ensures)
+    (alone_begins_none c.args.entry none)))

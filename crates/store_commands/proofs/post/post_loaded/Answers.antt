@@ -5,10 +5,11 @@ use Rattle.journal_state.specs.Whole.{StateValue}
 use Rattle.sync_rules.specs.Facts.{Id, group_at}
 use Rattle.store_commands.specs.Post.{posted_message}
 use Rattle.store_commands.proofs.Follow.{post_follows}
-use Rattle.store_commands.proofs.Passing.{posted_on, serves_on}
+use Rattle.store_commands.proofs.Passing.{leaves_on, posted_on, serves_on}
 use Rattle.store_commands.proofs.Posts.{posted_entry, posted_fault, posted_unknown}
 use Rattle.store_commands.proofs.Posts.{posted_unread}
 use Rattle.store_commands.proofs.Serving.{serves_unplanned, serves_unread}
+use Rattle.store_commands.proofs.Sessions.{leaves_by, leaves_itself}
 use Rattle.store_commands.proofs.post.post_loaded.Goals as goal
 
 -- whether a group is known to the state that a store lends
@@ -104,3 +105,25 @@ returns-in_err-post-clause-serves g c served =
 
 pub returns-clause-serves : goal.returns-clause-serves
 returns-clause-serves g c served = c.add_entry.ensures.serves served tt
+
+pub returns-then-not-knows_group-clause-sessions : goal.returns-then-not-knows_group-clause-sessions
+returns-then-not-knows_group-clause-sessions g c =
+    leaves_itself c.args.store.now
+
+pub returns-in_err-body-clause-sessions : goal.returns-in_err-body-clause-sessions
+returns-in_err-body-clause-sessions g c =
+    let came = c.in_err-body.field-0.0 in
+    let s = c.args.store.now in
+    leaves_on c.from_residual.result came c.from_residual.ensures.1 s s
+    (leaves_by s s came (leaves_itself s))
+
+pub returns-in_err-post-clause-sessions : goal.returns-in_err-post-clause-sessions
+returns-in_err-post-clause-sessions g c =
+    let came = c.in_err-post.field-0.0 in
+    let s = c.args.store.now in
+    leaves_on c.from_residual-in_err-post.result came c.from_residual-in_err-post.ensures.1 s s
+    (leaves_by s s came (leaves_itself s))
+
+pub returns-clause-sessions : goal.returns-clause-sessions
+returns-clause-sessions g c =
+    c.add_entry.ensures.sessions refl
