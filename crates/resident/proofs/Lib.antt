@@ -1,1 +1,4 @@
-mod StayLemmas
+pub mod StayLemmas
+mod LinkLemmas
+mod EraLemmas
+mod BeginLemmas

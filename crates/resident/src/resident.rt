@@ -9,25 +9,30 @@ ghost use Rattle.sync_words.specs.declared.outcome.Outcome.TheVariants as outcom
 ghost use Rattle.node_service.specs.Lives.{shown_bytes};
 ghost use Rattle.node_life.specs.Requests.{AnswersRequest};
 ghost use Rattle.node_life.specs.Settling.{HasBegun};
-ghost use Rattle.resident.specs.Staying.{EndedReply, MayStay};
+ghost use Rattle.resident.specs.Staying.{EndedReply, EndsBefore, MayStay, era_behind};
 
-use node_life::{answer_request, begin};
+use node_life::{answer_request, begin, leaves_sessions};
 use node_service::{Output, Reply};
 use outside::Host;
 use request_frames::InputSize;
 use std::alloc::Global;
 use std::hash::RandomState;
+use sync_node::Aside;
 use sync_rules::Clients;
 use sync_store::Store;
 use sync_words::Outcome;
 
-/// A node that stays.
+/// A node that stays. Its sessions run in eras: one begins with the first session, and ends when its
+/// owner says so, behind a session's call that failed, and before a request that may change sessions;
+/// then all of its sessions have ended.
 #[derive(Drop)]
 pub struct Resident {
     pub alloc: Global,
     pub hasher: RandomState,
     /// The store.
     pub store: Store,
+    /// The sessions of the era that runs.
+    pub aside: Option<Aside>,
     /// Whether it has ended: behind `quit` and behind a fault of the disk nothing is done any more.
     pub ended: bool,
 }
@@ -65,6 +70,7 @@ impl Resident {
                 alloc,
                 hasher,
                 store,
+                aside: None,
                 ended: false,
             }),
             Err(came) => Err(came),
@@ -99,13 +105,36 @@ impl Resident {
         if self.ended {
             return ended_reply();
         }
+        self.end_before(words);
         let (alloc, hasher) = (self.alloc, self.hasher);
         let store = &mut self.store;
         let reply = answer_request(
             alloc, hasher, store, words, size, most, kept, host, out, clients,
         );
-        self.ended = reply.ends;
+        self.note(&reply);
         reply
+    }
+
+    // Ends the era before a request of these words, unless they leave its sessions as they are.
+    fn end_before(&mut self, words: &[u8])
+        ensures { EndsBefore words.now self.old self.new }
+    {
+        if !leaves_sessions(words) {
+            self.aside = None;
+        }
+    }
+
+    // Behind a request that was answered so.
+    fn note(&mut self, reply: &Reply)
+        ensures { self.new ≡ record self.old {
+          aside = era_behind reply.now.came self.old.aside;
+          ended = reply.now.ends;
+        } }
+    {
+        if matches!(reply.came, Outcome::DiskFault) {
+            self.aside = None;
+        }
+        self.ended = reply.ends;
     }
 
     /// Whether the node has ended.
