@@ -1,6 +1,6 @@
 //! The socket at which a node that stays is asked.
 use crate::cause::{Cause, Unmet};
-use crate::stand::{Node, Standing, remove, stand};
+use crate::stand::{Node, Standing, remove, stand_at};
 use outside::Heard;
 use std::alloc::Global;
 use std::io;
@@ -32,7 +32,7 @@ impl ControlSocket {
     ) -> Result<ControlSocket, Unmet> {
         let path = Path::new(folder).join(alloc, SOCKET_NAME)?;
         let path = String::from_str(alloc, path.as_path().as_str())?;
-        match stand(rt, alloc, path.as_str()) {
+        match stand_at(rt, alloc, path.as_str()) {
             Ok(Standing { listener, node }) => {
                 listener.set_nonblocking(true)?;
                 Ok(ControlSocket {

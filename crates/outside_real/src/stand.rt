@@ -44,7 +44,7 @@ pub fn stand_free<R: Files + Net>(rt: &R, alloc: Global, path: &str) -> io::Resu
 }
 
 /// As `stand_free`, where a socket of this user at which nobody answers is taken away.
-pub fn stand<R: Files + Net>(rt: &R, alloc: Global, path: &str) -> io::Result<Standing> {
+pub fn stand_at<R: Files + Net>(rt: &R, alloc: Global, path: &str) -> io::Result<Standing> {
     stand_as(rt, alloc, path, true)
 }
 
