@@ -18,11 +18,13 @@ _bsp() {
         help:3) [ "${COMP_WORDS[2]}" = mailbox ] && COMPREPLY=($(compgen -W 'in out' -- "$word")) ;;
         mailbox:2) COMPREPLY=($(compgen -W 'in out' -- "$word")) ;;
         serve:2) COMPREPLY=($(compgen -W 'std socket' -- "$word")) ;;
-        sync:*)
-            [ "$place" -lt 4 ] && return
-            case $(((place - 4) % 4)) in
+        sync:* | serve:*)
+            local first=4 specs='std tcp: listen: unix: unixlisten:'
+            if [ "${COMP_WORDS[1]}" = serve ]; then first=3 specs=${specs#std }; fi
+            [ "$place" -lt $first ] && return
+            case $(((place - first) % 4)) in
                 1) COMPREPLY=($(compgen -W 'interactive batch' -- "$word")) ;;
-                3) COMPREPLY=($(compgen -W 'std tcp: listen: unix: unixlisten:' -- "$word")) ;;
+                3) COMPREPLY=($(compgen -W "$specs" -- "$word")) ;;
             esac
             ;;
     esac

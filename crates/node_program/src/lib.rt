@@ -18,7 +18,7 @@ use outside_real::{
     Cause, EarlySource, FileHost, Need, StdSink, Turn, Unmet, hold_standard_numbers,
 };
 use stay_loop::{Course, stay};
-use stay_words::{Stay, Way, read_stay};
+use stay_words::{LinksOfStay, Stay, Way, read_stay};
 use std::alloc::{AllocError, Global};
 use std::fs::{File, Files};
 use std::hash::RandomState;
@@ -31,9 +31,6 @@ use sync_top::{Outcome, Status, report, run};
 
 // Where help is: a line behind the usage line of words that begin with no command.
 const HINT: &str = "bsp help lists the commands\n";
-
-// Where the words of links would stand behind `serve` and its way.
-const PLACE_OF_LINKS: usize = 2;
 
 /// Does what the words of the command line ask for, in the folder that is current, or answers what
 /// they ask of the program itself. No file may have been opened yet.
@@ -58,44 +55,13 @@ where
     let Ok(words) = words(&rt, alloc) else {
         return report(&Outcome::Memory, &mut err).exit_code();
     };
-    let status = match read_staying(alloc, words.as_slice()) {
-        Ok(Staying::Serves(way)) => serve(rt, alloc, way, input, out, err),
-        Ok(Staying::Watches) => watch_words(rt, alloc, words.as_slice(), out, err),
-        Ok(Staying::Neither) => answer_words(rt, alloc, words.as_slice(), input, out, err),
+    let status = match read_stay(alloc, words.as_slice()) {
+        Ok(Some(Stay::Serve(way, links))) => serve(rt, alloc, way, links, input, out, err),
+        Ok(Some(Stay::Watch(_))) => watch_words(rt, alloc, words.as_slice(), out, err),
+        Ok(None) => answer_words(rt, alloc, words.as_slice(), input, out, err),
         Err(fault) => report(&Outcome::from(fault), &mut err).number(),
     };
     ExitCode::from(status)
-}
-
-// What the words ask for of a node that stays.
-#[derive(Clone, Copy)]
-enum Staying {
-    // To be one.
-    Serves(Way),
-    // What it delivers.
-    Watches,
-    // Neither.
-    Neither,
-}
-
-// What the words ask for of a node that stays. It has no links: a word behind the way is too many.
-fn read_staying(alloc: Global, words: &[String]) -> Result<Staying, WordsFault> {
-    match read_stay(alloc, words) {
-        Ok(Some(asked)) => staying_so(&asked),
-        Ok(None) => Ok(Staying::Neither),
-        Err(WordsFault::Usage(place)) => Err(WordsFault::Usage(place.min(PLACE_OF_LINKS))),
-        Err(WordsFault::Memory) => Err(WordsFault::Memory),
-    }
-}
-
-fn staying_so(asked: &Stay) -> Result<Staying, WordsFault> {
-    match asked {
-        Stay::Serve(_, links) if !links.as_slice().is_empty() => {
-            Err(WordsFault::Usage(PLACE_OF_LINKS))
-        }
-        Stay::Serve(way, _) => Ok(Staying::Serves(*way)),
-        Stay::Watch(_) => Ok(Staying::Watches),
-    }
 }
 
 // Tells what a node delivers.
@@ -113,7 +79,15 @@ where
 }
 
 // Is a node that stays, where none holds the store.
-fn serve<R, I, O, E>(rt: R, alloc: Global, way: Way, input: I, out: O, err: StdSink<E>) -> u8
+fn serve<R, I, O, E>(
+    rt: R,
+    alloc: Global,
+    way: Way,
+    links: LinksOfStay,
+    input: I,
+    out: O,
+    err: StdSink<E>,
+) -> u8
 where
     R: Runtime + Files<File = File> + AllocGlobal + Net + RandomSource,
     I: Read + Drop,
@@ -132,11 +106,12 @@ where
     let course = Course {
         turn,
         way,
+        links,
         input,
         out,
         err,
     };
-    stay(rt, alloc, hasher, course, &SharingBundle::new()).number()
+    stay(rt, alloc, hasher, course, SharingBundle::new()).number()
 }
 
 // Does what the words ask for, or answers what they ask of the program itself.

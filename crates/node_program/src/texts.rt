@@ -20,7 +20,7 @@ pub const OVERVIEW: &str = "bsp - keep groups of messages and exchange them with
   bsp mailbox in CONTACT <FILE
   bsp mailbox out CONTACT LATENCY COUNT >FILE
   bsp sync TURNS QUIET CONTACT MODE LATENCY SPEC [CONTACT MODE LATENCY SPEC ...]
-  bsp serve WAY
+  bsp serve WAY [CONTACT MODE LATENCY SPEC ...]
   bsp watch FROM
   bsp quit
   bsp records <STREAM
@@ -120,7 +120,10 @@ Prints how many messages are held and delivered, and how many sessions have
 begun; where the journal ends, in bytes, and how many a batch may still take
 behind it, with its frame, when the room that settling may need is kept; and
 the version of the program. The journal is told of as it stands, so one sees a
-full store coming.
+full store coming. Of a node with links a line for each comes behind these,
+`link I CONTACT STATE SESSION`: it is `up`, it is just being dialled
+(`dials`), it `waits` for a peer or its next dial, or it is `off` until the
+store was compacted; and the number of its last session.
 ";
 
 /// What `say` does.
@@ -183,21 +186,26 @@ output how it ended.
 ";
 
 /// What `serve` does.
-pub const SERVE: &str = "bsp serve WAY
+pub const SERVE: &str = "bsp serve WAY [CONTACT MODE LATENCY SPEC ...]
 
-Holds the store for as long as it runs, and does what other commands in its
-folder ask for, which find it by themselves. It runs no sessions; it ends when
-`quit` is asked. WAY is `socket` or `std`; with `std` it also answers requests
-of the standard input on the standard output, in their order, and ends with
-the input. It prints `node 1` there when it is ready. A request is a line with
-two numbers, how many bytes its words and its input have, then the words, a
-zero byte behind each, and the input. An answer is a line with three numbers,
-the status and how many bytes the output and the error output get, and then
-these. A request does and prints what the command of the same words does, over
-the store as it stands. While an answer to a request of the standard input is
-being written nothing is read there: ask for one thing at a time, or read the
-answers in a thread. What is no request is answered with status 1, and the
-node ends.
+Holds the store for as long as it runs, does what other commands in its folder
+ask for, which find it by themselves, and keeps up the zero to eight links
+that stand behind WAY, each CONTACT MODE LATENCY SPEC as for `sync`, but never
+`std`. It ends when `quit` is asked. A link that ended is dialled again behind
+a pause of 1 to 64 seconds; where peers come, the next one is let in behind
+such a pause, and takes the place of one that is still there. A line on the
+error output tells how each link ended, `status` how they stand. All sessions
+end before `compact` and `mailbox`, and begin again. WAY is `socket` or `std`;
+with `std` it also answers requests of the standard input on the standard
+output, in their order, and ends with the input. It prints `node 1` there when
+it is ready. A request is a line with two numbers, how many bytes its words
+and its input have, then the words, a zero byte behind each, and the input. An
+answer is a line with three numbers, the status and how many bytes the output
+and the error output get, and then these. A request does and prints what the
+command of the same words does, over the store as it stands. While an answer
+to a request of the standard input is being written nothing is read there: ask
+for one thing at a time, or read the answers in a thread. What is no request
+is answered with status 1, and the node ends.
 ";
 
 /// What `watch` does.

@@ -19,7 +19,7 @@ const MOST_ASKERS: usize = 32;
 const DEAF_MILLISECONDS: u64 = 1_000;
 
 // How long is waited at most where somebody waits to bring a long input, in milliseconds.
-const LONG_MILLISECONDS: u32 = 1_000;
+const LONG_MILLISECONDS: u64 = 1_000;
 
 // The number of no stream.
 const NO_STREAM: i32 = -1;
@@ -88,9 +88,8 @@ impl<I: Read + Drop, O: Write + Drop> Talk<I, O> {
         }
     }
 
-    /// Waits until something is to be done: on a connection or at the socket. It does not wait where a
-    /// request is there whole.
-    pub fn wait(&mut self, clock: &impl Clock) -> Result<(), AllocError> {
+    /// Begins a wait: for the connections, and for the socket.
+    pub fn prepare(&mut self, clock: &impl Clock) -> Result<(), AllocError> {
         self.now = self.watch.now(clock);
         self.waiting.clear();
         for place in self.desk.places.as_slice() {
@@ -103,10 +102,14 @@ impl<I: Read + Drop, O: Write + Drop> Talk<I, O> {
         }
         let number = self.door_number();
         self.door = self.waiting.add(number, true, false)?;
-        let most = self.most_wait();
+        Ok(())
+    }
+
+    /// Waits for all that was added, so many milliseconds at most where that is said.
+    pub fn wait(&mut self, clock: &impl Clock, most: Option<u64>) {
+        let most = most.map(|most| u32::try_from(most).unwrap_or(u32::MAX));
         self.waiting.wait(clock, most);
         self.now = self.watch.now(clock);
-        Ok(())
     }
 
     // The number of the socket, where another one is let in.
@@ -117,8 +120,8 @@ impl<I: Read + Drop, O: Write + Drop> Talk<I, O> {
         }
     }
 
-    // How long may be waited at most, in milliseconds.
-    fn most_wait(&self) -> Option<u32> {
+    /// How long may be waited at most, in milliseconds; not at all where a request is there whole.
+    pub fn most_wait(&self) -> Option<u64> {
         if self.desk.next().is_some() {
             Some(0)
         } else if self.desk.is_waiting() || self.now < self.deaf_until {
@@ -199,10 +202,11 @@ impl<I: Read + Drop, O: Write + Drop> Talk<I, O> {
         self.desk.hear_all(self.now);
     }
 
-    /// Lets go of connections that are over; where it is the standard streams, that ends the node.
+    /// Lets go of connections that are over; where it is the standard streams, that ends the node. All
+    /// that could be heard was heard before.
     pub fn sweep(&mut self) {
         for place in self.desk.places.iter_mut() {
-            if place.connection.is_over() {
+            if is_over(place) {
                 if place.stream.is_standard() {
                     let end = end_of(&place.connection);
                     self.std_end = self.std_end.or(Some(end));
@@ -227,6 +231,15 @@ impl<I: Read + Drop, O: Write + Drop> Talk<I, O> {
     pub fn take_name_away<R: Files>(&mut self, rt: &R) {
         if let Some(socket) = self.socket.take() {
             socket.close(rt);
+        }
+    }
+
+    /// Tells each who watches that the journal is full.
+    pub fn tell_full(&mut self) {
+        for place in self.desk.places.iter_mut() {
+            if place.connection.watches() {
+                let _ = place.connection.tell("full", 0, &[]);
+            }
         }
     }
 
@@ -374,6 +387,20 @@ fn read_some<I: Read + Drop, O: Write + Drop>(
         }
         Heard::Failed => Moved::ReadFault,
     }
+}
+
+// Whether nothing more is to be done on a connection. The standard streams are over with their input,
+// whatever is watched there.
+fn is_over<I: Read + Drop, O: Write + Drop>(place: &Place<Speaker<I, O>>) -> bool {
+    let connection = &place.connection;
+    if place.stream.is_standard()
+        && connection.has_ended()
+        && connection.waiting().is_empty()
+        && connection.standing() == Standing::Hears
+    {
+        return true;
+    }
+    connection.is_over()
 }
 
 // Why the standard streams end the node, whose connection is over.

@@ -40,4 +40,13 @@ impl LinksOfStay {
     {
         self.links.as_slice()
     }
+
+    /// The links, in order. It takes no memory.
+    pub fn into_links(self) -> Vec<LinkWords>
+        ensures links { result.items ≡ self }
+        ensures within { AreStaying result.items }
+    {
+        let LinksOfStay { links } = self;
+        links
+    }
 }
